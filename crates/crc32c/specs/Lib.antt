@@ -1,0 +1,5 @@
+-- What the contracts of CRC32C cite.
+pub mod Bytes
+pub mod Poly
+pub mod Reg
+pub mod Matrix
