@@ -1,0 +1,54 @@
+-- A word's halves come back; one element of a ring, put and read.
+-- Assumes nothing.
+use mathlib.Core.Path.{_≡_, sym, _∙_}
+use mathlib.Core.Logic.{_≢_}
+use mathlib.Core.List.{List, [], _∷_, _++_}
+use Prim.Native.Nat.{ℕ, _+_, _<_, _≤_, _^_}
+use native.Mathlib.Omega.{arith}
+use lib.Pow.{high, low}
+use lib.ListN.{length, drop, getD, set}
+use lib.Seq.{set-split, take-set-lt, drop-set-add, getD-set-same, getD-set-other}
+use Rattle.ring.specs.Ring.{ring, part, Within, Written}
+use Rattle.ring.specs.Word.{packed, lenOf, sumOf}
+use Rattle.ring.proofs.Paste.{paste-one}
+use Rattle.ring.proofs.Laws.{length-ring, length-part, part-joined}
+
+pub len-packed : (len sum : ℕ) → len < 2 ^ 32 → lenOf (packed len sum) ≡ len
+len-packed len sum h = low sum 32 h
+
+pub sum-packed : (len sum : ℕ) → len < 2 ^ 32 → sumOf (packed len sum) ≡ sum
+sum-packed len sum h = high sum 32 h
+
+-- after one element is put at place `at`
+module _ {A : Type 0} (size head at : ℕ) (w : A) (before after : List A) (within : Within (length before) size head at 1)
+    (put : Written size head at (w ∷ []) 1 before after) where
+  ring-put : ring size head after ≡ set (ring size head before) at w
+  ring-put =
+      let l : length (ring size head before) ≡ size = length-ring size head before (within .room) in
+      put .inside ∙ paste-one (ring size head before) at w (omega arith)
+
+  -- it is read there
+  pub read-put : (d : A) → getD (ring size head after) at d ≡ w
+  read-put d =
+      let l : length (ring size head before) ≡ size = length-ring size head before (within .room) in
+      rw ring-put (getD-set-same (ring size head before) at w d (omega arith))
+
+  -- every other place is as it was
+  pub read-other : (j : ℕ) (d : A) → j ≢ at → getD (ring size head after) j d ≡ getD (ring size head before) j d
+  read-other j d n = rw ring-put (getD-set-other (ring size head before) at j w d n)
+
+  -- a range with the place in it has the element there
+  pub part-put : (a i n : ℕ) → a + i ≡ at → i < n → part size head a n after ≡ set (part size head a n before) i w
+  unfolding part
+  part-put a i n e h =
+      rw (ring-put, sym e, drop-set-add a (ring size head before) i w) (take-set-lt n (drop a (ring size head before)) i w h)
+
+  -- put at the end of a list of n, it is the list's last
+  pub pushed : (n : ℕ) → at ≡ n → part size head 0 (n + 1) after ≡ part size head 0 n before ++ (w ∷ [])
+  pushed n e = part-joined size head at (w ∷ []) 1 before after within (omega arith) put 0 n (omega arith)
+
+  -- put at the front of a list of n, it is in the first one's place
+  pub front-put : (n : ℕ) → at ≡ 0 → 0 < n → n ≤ size → part size head 0 n after ≡ w ∷ drop 1 (part size head 0 n before)
+  front-put n e p h =
+      let l : length (part size head 0 n before) ≡ n = length-part size head before (within .room) 0 n (omega arith) in
+      part-put 0 0 n (omega arith) p ∙ set-split (part size head 0 n before) 0 w (omega arith)

@@ -1,0 +1,3 @@
+-- What the contracts of the ring cite.
+pub mod Ring
+pub mod Word

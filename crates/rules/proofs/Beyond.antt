@@ -1,0 +1,43 @@
+-- More than demand 3: requests are right, completed finalises are final, nothing is cut for a request, no session regresses.
+use mathlib.Core.Path.{_≡_, refl, sym, ap, _∙_, subst}
+use mathlib.Core.List.{_++_, append-assoc}
+use Prim.Native.Nat.{ℕ}
+use lib.ListN.{length, take, drop}
+use lib.Seq.{take-at, drop-at}
+use Rattle.rules.specs.Message.{Bytes, ChecksummedData, Request}
+use Rattle.rules.specs.World.{World, runs, start}
+use Rattle.rules.specs.Beyond.{RightChunk, RightFinish, RightRequest, HoldsBeyond, BeyondDemand3}
+use Rattle.rules.proofs.Lists.{clash, all-map, Slice, slice-grow}
+use Rattle.rules.proofs.Inv.{Right, isRegressed, Inv}
+use Rattle.rules.proofs.Keeps.{runs-keep}
+use Rattle.rules.proofs.Start.{start-inv}
+use Rattle.rules.proofs.Demand3.{completed-mark, all-chunked}
+
+chunk-in-all : (W : Bytes) (r : Request) (d : ChecksummedData) → Slice W (r .writeOffset) (d .content) (d .crc32c) → RightChunk W r d
+chunk-in-all W r d s =
+    let e : drop (length (s .before)) W ≡ d .content ++ s .behind
+    = ap (drop (length (s .before))) (s .whole ∙ append-assoc (s .before) (d .content) (s .behind)) ∙ drop-at (s .before) (d .content ++ s .behind) _ refl in
+    record {
+      offset = length (s .before);
+      stands = s .at-is;
+      sum = s .sum-is;
+      content = sym (take-at (d .content) (s .behind) (length (d .content)) refl) ∙ ap (take (length (d .content))) (sym e);
+    }
+
+right-request : {from : ℕ} {w : World} (i : Inv from w) (r : Request) → Right (i .K) (w .session .worker .finalized) r → RightRequest (w .notes .all) r
+right-request {w} i r h = record {
+  chunk = λ d e. chunk-in-all (w .notes .all) r d
+      (subst (λ (x : Bytes). Slice x (r .writeOffset) (d .content) (d .crc32c)) (sym (i .buffer .all-is)) (slice-grow (w .session .held) (h .chunk d e)));
+  finish = λ e. subst (λ (x : Bytes). RightFinish x r) (sym (all-chunked i ((h .finish e) .0))) ((h .finish e) .1);
+}
+
+pub holds-beyond : {from : ℕ} (w : World) → Inv from w → HoldsBeyond w
+holds-beyond w i = record {
+  requests = all-map (Right (i .K) (w .session .worker .finalized)) (RightRequest (w .notes .all)) (right-request i) (w .notes .handed) (i .handed .right);
+  finalised = λ n m l e. (completed-mark i n m l e) .finalised;
+  uncut = λ e. (i .flow .flows e) .alive;
+  steady = λ e. clash (ap isRegressed e) (i .steady);
+}
+
+pub beyond-demand3 : BeyondDemand3
+beyond-demand3 o s a object tail v es = holds-beyond (runs es (start o s object tail)) (runs-keep es (start o s object tail) (start-inv o s a object tail v))

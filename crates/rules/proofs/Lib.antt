@@ -1,0 +1,22 @@
+-- The proof of demand 3 and of what is stated beyond it, lowest first; then what holds of the rules by themselves.
+pub mod Lists
+pub mod Inv
+pub mod Server
+pub mod Flow
+pub mod Wait
+pub mod Buffer
+pub mod After
+pub mod CallsReconnect
+pub mod CallsReplay
+pub mod CallsUpload
+pub mod CallsRespond
+pub mod Keeps
+pub mod Accepted
+pub mod Start
+pub mod Demand3
+pub mod Beyond
+pub mod Total
+pub mod Program
+pub mod Bound
+pub mod Refused
+pub mod Push

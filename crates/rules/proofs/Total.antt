@@ -1,0 +1,22 @@
+-- The byte total of document 01.
+use mathlib.Core.Path.{ap}
+use Prim.Native.Nat.{ℕ}
+use native.Mathlib.Omega.{arith}
+use lib.ListN.{length, length-append, length-drop}
+use Rattle.rules.specs.Session.{stored}
+use Rattle.rules.specs.World.{World, runs, start}
+use Rattle.rules.specs.Total.{Total, ByteTotal}
+use Rattle.rules.proofs.Inv.{Inv}
+use Rattle.rules.proofs.Keeps.{runs-keep}
+use Rattle.rules.proofs.Start.{start-inv}
+
+pub totals : {from : ℕ} (w : World) → Inv from w → Total from w
+unfolding stored
+totals {from} w i = record {
+  size = i .p;
+  persisted = i .buffer .p-is;
+  total = omega (arith, i .since, i .buffer .within, ap length (i .buffer .all-is), length-append (i .K) (w .session .held), ap length (i .buffer .bytes), length-drop (i .p) (i .K));
+}
+
+pub byte-total : ByteTotal
+byte-total o s a object tail v es = totals (runs es (start o s object tail)) (runs-keep es (start o s object tail) (start-inv o s a object tail v))

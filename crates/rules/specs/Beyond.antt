@@ -1,0 +1,49 @@
+-- More than demand 3, which alone lets a wrong sum pass (it only cuts) and does not ask whether the object was really finalised.
+use mathlib.Core.Path.{_≡_}
+use mathlib.Core.Logic.{_≢_}
+use mathlib.Core.Bool.{true}
+use mathlib.Core.Option.{some}
+use mathlib.Core.List.{List, [], _∷_}
+use Prim.Native.Nat.{ℕ, _<_}
+use lib.ListN.{length, take, drop, getElem?}
+use lib.IntN.{pos}
+use Rattle.crc32c.specs.Reg.{crcOf}
+use Rattle.rules.specs.Message.{Bytes, ChecksummedData, Request}
+use Rattle.rules.specs.Session.{finalizing, regressed, ended}
+use Rattle.rules.specs.Notes.{Mark}
+use Rattle.rules.specs.World.{World}
+use Rattle.rules.specs.Demand3.{Always}
+
+-- (a) a chunk has the bytes of W at its offset, and their sum
+pub record RightChunk (W : Bytes) (r : Request) (d : ChecksummedData) : Type 0 where
+  pub offset : ℕ
+  pub stands : r .writeOffset ≡ pos offset
+  pub content : d .content ≡ take (length (d .content)) (drop offset W)
+  pub sum : d .crc32c ≡ crcOf (d .content)
+
+-- a finish stands at the end of W, and a sum that it has is that of W
+pub record RightFinish (W : Bytes) (r : Request) : Type 0 where
+  pub stands : r .writeOffset ≡ pos (length W)
+  pub sum : (c : ℕ) → r .objectChecksum ≡ some c → c ≡ crcOf W
+
+pub record RightRequest (W : Bytes) (r : Request) : Type 0 where
+  pub chunk : (d : ChecksummedData) → r .checksummedData ≡ some d → RightChunk W r d
+  pub finish : r .finishWrite ≡ true → RightFinish W r
+
+abbrev pub All {ℓ} : {A : Type ℓ} → (A → Type 0) → List A → Type 0
+All Q [] = Unit {0}
+All Q (x ∷ xs) = Q x × All Q xs
+
+pub record HoldsBeyond (w : World) : Type 0 where
+  -- (a) every request ever handed out is right, trimmed chunks too
+  pub requests : All (RightRequest (w .notes .all)) (w .notes .handed)
+  -- (b) "once a finalise's waiter is reported completed, the server's object is finalised"
+  pub finalised : (i : ℕ) (m : Mark) → i < w .notes .completed → getElem? (w .notes .marks) i ≡ some m → m .kind ≡ finalizing
+      → w .server .finalised ≡ true
+  -- (c) a connection that lost nothing, with every request sent on it, was never cut: no request was answered by a cut
+  pub uncut : w .server .lossless ≡ true → w .server .alive ≡ true
+  -- (d)
+  pub steady : w .session .phase ≢ ended regressed
+
+abbrev pub BeyondDemand3 : Type 0
+BeyondDemand3 = Always HoldsBeyond

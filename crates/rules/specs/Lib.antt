@@ -1,0 +1,27 @@
+-- Document 01 as definitions, in an order in which they can be read; docs/PAPER.md leads from the paper's sentences to them.
+-- The session and its step rules
+pub mod Message
+pub mod Spec
+pub mod Session
+pub mod Upload
+pub mod Respond
+pub mod Reconnect
+pub mod Replay
+pub mod Step
+pub mod Opening
+-- the server, the host and what is claimed
+pub mod Server
+pub mod Notes
+pub mod World
+pub mod Demand3
+pub mod Beyond
+pub mod Total
+pub mod Program
+pub mod Push
+-- what the paper marks and shows, computed
+pub mod Computed
+pub mod Points
+pub mod Refusals
+pub mod Cases
+pub mod Example
+pub mod Scenarios

@@ -1,0 +1,122 @@
+-- "Opening": refusals 1 to 5 in order, else the session that the calls start from (`connect_attempt`, `start_worker`).
+use mathlib.Core.Bool.{Bool, true, false, not, cond, _&&_, _||_}
+use mathlib.Core.Option.{Option, none, some, Option·getD}
+use mathlib.Core.List.{List, [], _∷_, _++_}
+use Prim.Native.Nat.{ℕ, _+_, _*_, _-_, max}
+use lib.ListN.{length}
+use lib.Dec.{leb, ltb, eqb}
+use lib.IntN.{ℤ, pos}
+use lib.Signed.{leZ}
+use Rattle.crc32c.specs.Reg.{crcOf}
+use Rattle.rules.specs.Message.{Bytes, Response, sizeOf, isFinalized, over, maxHandle, maxToken}
+use Rattle.rules.specs.Spec.{AppendObjectSpecState, bucketOf, objectOf, tokenOf, handleOf, handleResponse}
+use Rattle.rules.specs.Session.{ReplayChunk, live, nothing, Session}
+use Rattle.rules.specs.Respond.{ack}
+
+pub record Opening : Type 0 where
+  -- C
+  pub limit : ℕ
+  -- the capacity asked for
+  pub asked : Option ℕ
+  -- lent: bytes of the store, slots of the chunk table
+  pub storeLength : ℕ
+  pub slots : ℕ
+  pub spec : AppendObjectSpecState
+  pub response : Response
+  -- the response's sum of the persisted data, which only an opening reads
+  pub checksum : Option ℕ
+  pub payload : Option Bytes
+  pub lastPersistedSize : ℤ
+
+pub data Opened : Type 0 where
+  turnedAway : ℕ → Opened
+  opened : Session → Opened
+
+-- "An opening that names no capacity has 33,554,432."
+abbrev pub askedCapacity : Opening → ℕ
+askedCapacity o = Option·getD (o .asked) 33554432
+
+-- "Capacity is the larger of the asked one and 2 × C + 1."
+abbrev pub capacityOf : Opening → ℕ
+capacityOf o = max (askedCapacity o) (2 * o .limit + 1)
+
+-- ---- refusals
+
+-- `projects/_/buckets/`
+abbrev pub bucketPrefix : Bytes
+bucketPrefix = 112 ∷ 114 ∷ 111 ∷ 106 ∷ 101 ∷ 99 ∷ 116 ∷ 115 ∷ 47 ∷ 95 ∷ 47 ∷ 98 ∷ 117 ∷ 99 ∷ 107 ∷ 101 ∷ 116 ∷ 115 ∷ 47 ∷ []
+
+abbrev pub startsWith : Bytes → Bytes → Bool
+startsWith [] l = true
+startsWith (x ∷ xs) [] = false
+startsWith (x ∷ xs) (y ∷ ys) = eqb x y && startsWith xs ys
+
+-- "`projects/_/buckets/` and 1 or more bytes", at most 256 in all
+unfoldable pub goodBucket : Bytes → Bool
+goodBucket b = startsWith bucketPrefix b && ltb (length bucketPrefix) (length b) && leb (length b) 256
+
+-- "object over 1,024, token over 512, write handle over 1,024, payload over C"
+unfoldable pub tooLong : Opening → Bool
+tooLong o =
+    ltb 1024 (length (objectOf (o .spec))) || over maxToken (tokenOf (o .spec)) || over maxHandle (handleOf (o .spec))
+    || over maxHandle (o .response .writeHandle) || over (o .limit) (o .payload)
+
+-- ---- the session
+
+-- "persisted size P is the response's, 0 where absent"; "A negative P is kept."
+abbrev pub openSize : Opening → ℤ
+openSize o = Option·getD (sizeOf (o .response .writeStatus)) (pos 0)
+
+abbrev pub larger : ℤ → ℤ → ℤ
+larger a b = cond (leZ a b) b a
+
+-- "the payload's length (none: 0)"
+abbrev pub payloadLength : Option Bytes → ℕ
+payloadLength none = 0
+payloadLength (some b) = length b
+
+-- "The running sum is the payload's, else 0 where P = 0, else the response's, else unknown."
+abbrev pub openSum : Option Bytes → ℤ → Option ℕ → Option ℕ
+openSum (some b) p sum = some (crcOf b)
+openSum none p sum = cond (leZ p (pos 0) && leZ (pos 0) p) (some 0) sum
+
+-- "a payload is stored at offset 0 and acknowledged to P"
+abbrev pub openChunks : Option Bytes → ℤ → List ReplayChunk
+openChunks none p = []
+openChunks (some b) p = ack p (record { writeOffset = pos 0; bytes = b; crc32c = crcOf b } ∷ [])
+
+-- "the write offset is the larger of P and the payload's length"
+unfoldable pub openSession : Opening → Session
+openSession o = record {
+  limit = o .limit;
+  slots = o .slots;
+  phase = live;
+  sent = nothing;
+  made = 0;
+  writeOffset = larger (openSize o) (pos (payloadLength (o .payload)));
+  runningCrc32c = openSum (o .payload) (openSize o) (o .checksum);
+  held = [];
+  worker = record {
+    connector = record { spec = handleResponse (o .response) (o .spec); attemptCount = 0; redirectsFollowed = 0; lastPersistedSize = o .lastPersistedSize };
+    replayBuffer = record { queue = openChunks (o .payload) (openSize o); capacity = capacityOf o };
+    pendingRequests = [];
+    persistedSize = openSize o;
+    finalized = false;
+    selfFlushOutstanding = false;
+  };
+}
+
+unfoldable pub first : List (Bool × ℕ) → Opened → Opened
+first [] r = r
+first (row ∷ rows) r = cond (row .0) (turnedAway (row .1)) (first rows r)
+
+unfoldable pub opens : Opening → Opened
+opens o =
+    first
+    ((eqb (o .limit) 0 || ltb 2097152 (o .limit) || ltb 1073741824 (askedCapacity o), 1)
+    ∷ (ltb (o .storeLength) (capacityOf o + 2 * o .limit - 2) || eqb (o .slots) 0, 2)
+    ∷ (not (goodBucket (bucketOf (o .spec))), 3)
+    ∷ (tooLong o, 4)
+    ∷ (isFinalized (o .response .writeStatus), 5)
+    ∷ [])
+    (opened (openSession o))

@@ -1,0 +1,111 @@
+-- "Breaks and replay", first half: break, verdict, failed attempt (`Connector::reconnect` without clock, retry_redirect.rs, redirect.rs).
+use mathlib.Core.Bool.{Bool, true, false, not, cond, _&&_, _||_}
+use mathlib.Core.Option.{Option, none, some}
+use mathlib.Core.List.{List, [], _∷_}
+use Prim.Native.Nat.{ℕ, suc, _-_, _^_, min}
+use lib.Dec.{ltb, eqb}
+use Rattle.rules.specs.Message.{Redirect, Break, redirectIn, isRedirect, isEnd, over, maxHandle, maxToken}
+use Rattle.rules.specs.Spec.{redirected}
+use Rattle.rules.specs.Session.{Connector, Cause, finished, permanent, exhausted, givenUp, streamError, Phase, live, closing, connecting, verdict, replay, ended, nothing, Session, attempt, ok, Result, answers, setConnector, setMark, setWorker, setPhase, isLive, isClosing, isVerdict, isConnecting, isEnded, complete, choose, unless, ending}
+use Rattle.rules.specs.Respond.{progress}
+
+-- token or handle of a redirect too long
+abbrev pub overlong : Option Redirect → Bool
+overlong none = false
+overlong (some r) = over maxToken (r .routingToken) || over maxHandle (r .writeHandle)
+
+-- redirect detail is taken over "for any code"
+abbrev pub rerouted : Option Redirect → Connector → Connector
+rerouted none c = c
+rerouted (some r) c = record {
+  spec = redirected r (c .spec);
+  attemptCount = c .attemptCount;
+  redirectsFollowed = c .redirectsFollowed;
+  lastPersistedSize = c .lastPersistedSize;
+}
+
+-- "Another break adds 1 to the attempt number, which stays at 2^32 − 1"
+abbrev pub attempted : Bool → Connector → Connector
+attempted true c = c
+attempted false c = record {
+  spec = c .spec;
+  attemptCount = min (suc (c .attemptCount)) (2 ^ 32 - 1);
+  redirectsFollowed = c .redirectsFollowed;
+  lastPersistedSize = c .lastPersistedSize;
+}
+
+-- "Finalise sent and no waiter: *finished*." Closing: "an end of stream finishes, dropping waiters; another break ends with a stream error
+-- unless finished." Otherwise, live: "the mark is cleared; a status with redirect detail replaces ...; P above the last size replaces it and
+-- zeroes both counters", and the attempt number "is answered; a redirect answers 0".
+unfoldable pub breaks : Break → Session → Result
+breaks b s =
+    unless s
+    ((isEnded (s .phase), 7)
+    ∷ (not (isLive (s .phase) || isClosing (s .phase)), 6)
+    ∷ (overlong (redirectIn b), 4)
+    ∷ [])
+    (choose (complete s) (ending finished 0 s)
+    (choose (isClosing (s .phase)) (ending (cond (isEnd b) finished streamError) 0 s)
+    (let c = attempted (isRedirect b) (progress (some (s .worker .persistedSize)) (rerouted (redirectIn b) (s .worker .connector))) in
+    answers (attempt (cond (isRedirect b) 0 (c .attemptCount)))
+    (setPhase (verdict (isRedirect b)) nothing (setWorker (setConnector c (setMark false (s .worker))) s)))))
+
+-- ---- verdicts: 1 continue, 2 permanent, 3 exhausted, 4 host gives up
+
+-- "Redirects 1 to 3 turn 1 to 3 into continue; from the fourth, 2 stays and the rest is exhausted. Verdict 4, permanent and exhausted end, with
+-- that cause." On a redirect or not, redirects followed before, verdict: the cause, if it ends
+abbrev pub ruling : Bool → ℕ → ℕ → Option Cause
+ruling redirect followed v =
+    cond (eqb v 4) (some givenUp)
+    (cond (redirect && ltb followed 3) none
+    (cond (eqb v 2) (some permanent)
+    (cond (redirect || eqb v 3) (some exhausted) none)))
+
+abbrev pub counted : Bool → Connector → Connector
+counted false c = c
+counted true c = record {
+  spec = c .spec;
+  attemptCount = c .attemptCount;
+  redirectsFollowed = suc (c .redirectsFollowed);
+  lastPersistedSize = c .lastPersistedSize;
+}
+
+-- "Continue leads to connecting."
+unfoldable pub ruled : Option Cause → Session → Result
+ruled none s = answers ok (setPhase connecting nothing s)
+ruled (some c) s = ending c 0 s
+
+abbrev pub noVerdict : ℕ → Bool
+noVerdict v = ltb v 1 || ltb 4 v
+
+abbrev pub onRedirect : Phase → Bool
+onRedirect live = false
+onRedirect closing = false
+onRedirect connecting = false
+onRedirect (verdict r) = r
+onRedirect (replay i) = false
+onRedirect (ended c) = false
+
+unfoldable pub judges : ℕ → Session → Result
+judges v s =
+    unless s
+    ((isEnded (s .phase), 7)
+    ∷ (not (isVerdict (s .phase)), 6)
+    ∷ (noVerdict v, 13)
+    ∷ [])
+    (let c = s .worker .connector in
+    let r = onRedirect (s .phase) in
+    ruled (ruling r (c .redirectsFollowed) v) (setWorker (setConnector (counted r c) (s .worker)) s))
+
+-- "A failed attempt brings its error and verdict under the same redirect rule, without the attempt number."
+unfoldable pub fails : Break → ℕ → Session → Result
+fails b v s =
+    unless s
+    ((isEnded (s .phase), 7)
+    ∷ (not (isConnecting (s .phase)), 6)
+    ∷ (noVerdict v, 13)
+    ∷ (overlong (redirectIn b), 4)
+    ∷ [])
+    (let c = rerouted (redirectIn b) (s .worker .connector) in
+    let r = isRedirect b in
+    ruled (ruling r (c .redirectsFollowed) v) (setWorker (setConnector (counted r c) (s .worker)) s))

@@ -1,0 +1,126 @@
+-- Responses and handshakes: `handle_response_success` of worker.rs, `ack` of replay_buffer.rs.
+use mathlib.Core.Bool.{Bool, true, false, not, cond, _&&_, _||_}
+use mathlib.Core.Option.{Option, none, some}
+use mathlib.Core.List.{List, [], _∷_, _++_}
+use Prim.Native.Nat.{ℕ, suc}
+use lib.ListN.{length, drop}
+use lib.IntN.{ℤ, pos, natAbs, _+ℤ_, _-ℤ_}
+use lib.Signed.{leZ, ltZ}
+use Rattle.crc32c.specs.Reg.{crcOf}
+use Rattle.rules.specs.Message.{Bytes, Request, Response, sizeOf, isFinalized, over, maxHandle}
+use Rattle.rules.specs.Spec.{noted}
+use Rattle.rules.specs.Session.{ReplayChunk, Connector, PendingKind, flushing, finalizing, PendingRequest, Worker, replay, nothing, bareFlush, regressed, alreadyFinalized, Session, completes, Result, answers, setConnector, setMark, setWorker, setPhase, isLive, isClosing, isConnecting, isEnded, chunks, waiters, watermark, complete, choose, unless, ending}
+use Rattle.rules.specs.Upload.{flushRequest}
+
+-- ---- acknowledging
+
+abbrev pub endOffset : ReplayChunk → ℤ
+endOffset c = c .writeOffset +ℤ pos (length (c .bytes))
+
+-- "the front one is trimmed with its sum made afresh"
+abbrev pub trimmed : ℤ → ReplayChunk → ReplayChunk
+trimmed n c = let b = drop (natAbs (n -ℤ c .writeOffset)) (c .bytes) in record { writeOffset = n; bytes = b; crc32c = crcOf b }
+
+-- "chunks ending at or below it go"
+unfoldable pub ack : ℤ → List ReplayChunk → List ReplayChunk
+ack n [] = []
+ack n (c ∷ cs) = cond (leZ (endOffset c) n) (ack n cs) (cond (ltZ (c .writeOffset) n) (trimmed n c ∷ cs) (c ∷ cs))
+
+-- ---- waiters
+
+-- "A flush wants size ≥ its offset and not finalised; a finalise wants the size and finalised."
+abbrev pub wants : PendingKind → Bool → Bool
+wants flushing finalised = not finalised
+wants finalizing finalised = finalised
+
+unfoldable pub isSatisfied : ℤ → Bool → PendingRequest → Bool
+isSatisfied n finalised p = leZ (p .request .writeOffset) n && wants (p .kind) finalised
+
+-- "Waiters are completed from the front while satisfied": how many
+unfoldable pub satisfied : ℤ → Bool → List PendingRequest → ℕ
+satisfied n finalised [] = 0
+satisfied n finalised (p ∷ ps) = cond (isSatisfied n finalised p) (suc (satisfied n finalised ps)) 0
+
+-- ---- a stated size
+
+-- P is the size n, chunks and waiters up to it are gone
+abbrev pub absorbs : ℤ → Bool → Worker → Worker
+absorbs n finalised w = record {
+  connector = w .connector;
+  replayBuffer = record { queue = ack n (w .replayBuffer .queue); capacity = w .replayBuffer .capacity };
+  pendingRequests = drop (satisfied n finalised (w .pendingRequests)) (w .pendingRequests);
+  persistedSize = n;
+  finalized = w .finalized;
+  selfFlushOutstanding = w .selfFlushOutstanding;
+}
+
+-- "no size, only the last step below; size below P, end *regressed*; else P is the size ... A finalised response then ends the session,
+-- *already finalised*, unless finalise was sent and no waiter is left." The last step is given the waiters completed.
+unfoldable pub takes : Option ℤ → Bool → Session → (ℕ → Session → Result) → Result
+takes none finalised s last = last 0 s
+takes (some n) finalised s last =
+    choose (ltZ n (s .worker .persistedSize)) (ending regressed 0 s)
+    (let k = satisfied n finalised (waiters s) in
+    let s′ = setWorker (absorbs n finalised (s .worker)) s in
+    choose (finalised && not (complete s′)) (ending alreadyFinalized k s′) (last k s′))
+
+-- ---- response
+
+-- the last chunk's end
+abbrev pub pushedEnd : ℤ → List ReplayChunk → ℤ
+pushedEnd z [] = z
+pushedEnd z (c ∷ cs) = pushedEnd (endOffset c) cs
+
+-- "one bare flush request at the last chunk's end". Under the watermark a chunk is stored: the 0 is never used.
+abbrev pub bareRequest : Session → Request
+bareRequest s = flushRequest (pushedEnd (pos 0) (chunks s))
+
+-- "If still live and the watermark holds, one bare flush request ... is sent and marked."
+unfoldable pub lastStep : ℕ → Session → Result
+lastStep k s =
+    choose (isLive (s .phase) && watermark s)
+    (answers (completes k (some (bareRequest s))) (setPhase (s .phase) bareFlush (setWorker (setMark true (s .worker)) s)))
+    (answers (completes k none) (setPhase (s .phase) nothing s))
+
+-- "updates generation and handle as AppendObjectSpecState"
+abbrev pub updated : Response → Connector → Connector
+updated m c = record {
+  spec = noted m (c .spec);
+  attemptCount = c .attemptCount;
+  redirectsFollowed = c .redirectsFollowed;
+  lastPersistedSize = c .lastPersistedSize;
+}
+
+unfoldable pub responds : Response → Session → Result
+responds m s =
+    unless s
+    ((isEnded (s .phase), 7)
+    ∷ (not (isLive (s .phase) || isClosing (s .phase)), 6)
+    ∷ (over maxHandle (m .writeHandle), 4)
+    ∷ [])
+    (takes (sizeOf (m .writeStatus)) (isFinalized (m .writeStatus))
+    (setWorker (setConnector (updated m (s .worker .connector)) (setMark false (s .worker))) s) lastStep)
+
+-- ---- handshake
+
+-- "P above the last size replaces it and zeroes both counters", as does a handshake's size
+abbrev pub progress : Option ℤ → Connector → Connector
+progress none c = c
+progress (some n) c =
+    cond (ltZ (c .lastPersistedSize) n)
+    (record { spec = c .spec; attemptCount = 0; redirectsFollowed = 0; lastPersistedSize = n }) c
+
+unfoldable pub toReplay : ℕ → Session → Result
+toReplay k s = answers (completes k none) (setPhase (replay 0) nothing s)
+
+-- "A handshake updates the spec; a size above the last one replaces it and zeroes the counters; the rest is as for a response, without
+-- bare flush, and leads to replay."
+unfoldable pub shakes : Response → Session → Result
+shakes m s =
+    unless s
+    ((isEnded (s .phase), 7)
+    ∷ (not (isConnecting (s .phase)), 6)
+    ∷ (over maxHandle (m .writeHandle), 4)
+    ∷ [])
+    (takes (sizeOf (m .writeStatus)) (isFinalized (m .writeStatus))
+    (setWorker (setConnector (progress (sizeOf (m .writeStatus)) (updated m (s .worker .connector))) (setMark false (s .worker))) s) toReplay)

@@ -1,0 +1,276 @@
+-- The session's state, grouped as the crate's structs own each other, the calls, the answers, and the tests that refusals and rules ask.
+use mathlib.Core.Bool.{Bool, true, false, not, cond, _&&_, _||_}
+use mathlib.Core.Option.{Option, none, some}
+use mathlib.Core.List.{List, [], _∷_, _++_}
+use Prim.Native.Nat.{ℕ, _*_, _-_, _^_}
+use lib.ListN.{length}
+use lib.Dec.{leb, ltb, eqb}
+use lib.IntN.{ℤ, pos, _+ℤ_}
+use lib.Signed.{ltZ}
+use Rattle.rules.specs.Message.{Bytes, Request, Response, Break}
+use Rattle.rules.specs.Spec.{AppendObjectSpec}
+
+-- ---- what the crate's structs hold
+
+-- stored bytes that the server may not have persisted, with their offset and sum
+pub record ReplayChunk : Type 0 where
+  pub writeOffset : ℤ
+  pub bytes : Bytes
+  pub crc32c : ℕ
+
+pub record ReplayBuffer : Type 0 where
+  pub queue : List ReplayChunk
+  pub capacity : ℕ
+
+pub record Connector : Type 0 where
+  pub spec : AppendObjectSpec
+  pub attemptCount : ℕ
+  pub redirectsFollowed : ℕ
+  pub lastPersistedSize : ℤ
+
+pub data PendingKind : Type 0 where
+  flushing finalizing : PendingKind
+
+-- a waiter: the request that waits for its confirmation
+pub record PendingRequest : Type 0 where
+  pub kind : PendingKind
+  pub request : Request
+
+pub record Worker : Type 0 where
+  pub connector : Connector
+  pub replayBuffer : ReplayBuffer
+  pub pendingRequests : List PendingRequest
+  -- P
+  pub persistedSize : ℤ
+  -- finalise was sent
+  pub finalized : Bool
+  -- the mark: an own flush is outstanding
+  pub selfFlushOutstanding : Bool
+
+-- ---- what tasks and channels become
+
+-- "Ends other than *finished* fail every waiter."
+pub data Cause : Type 0 where
+  finished regressed alreadyFinalized permanent exhausted givenUp streamError : Cause
+
+-- a verdict is awaited on a redirect or not; a replay has handed out so many requests
+pub data Phase : Type 0 where
+  live closing connecting : Phase
+  verdict : Bool → Phase
+  replay : ℕ → Phase
+  ended : Cause → Phase
+
+-- what the last accepted call sent: for a send reported failed
+pub data Sent : Type 0 where
+  nothing aRequest bareFlush : Sent
+
+-- the crate's transport with its worker
+pub record Session : Type 0 where
+  -- C
+  pub limit : ℕ
+  -- of the chunk table
+  pub slots : ℕ
+  pub phase : Phase
+  pub sent : Sent
+  -- waiters made so far
+  pub made : ℕ
+  pub writeOffset : ℤ
+  -- unknown: none
+  pub runningCrc32c : Option ℕ
+  -- held: what the coalescing buffer has
+  pub held : Bytes
+  pub worker : Worker
+
+-- ---- calls and answers
+
+-- an `ℕ` beside an append, flush, finalise or next request is the length of the out buffer, beside a break the verdict
+pub data Call : Type 0 where
+  append : Bytes → ℕ → Call
+  flush finalise nextRequest : ℕ → Call
+  close sendFailed : Call
+  response handshake : Response → Call
+  break : Break → Call
+  judge : ℕ → Call
+  failedAttempt : Break → ℕ → Call
+
+pub data Answer : Type 0 where
+  -- the number of document 01's table
+  refused : ℕ → Answer
+  -- append: bytes taken, and the request of the chunk that was cut
+  took : ℕ → Option Request → Answer
+  -- flush, finalise: held bytes were cut, call again; next request: the one to send
+  sends : Request → Answer
+  -- flush, finalise: the request, and the number of the waiter made
+  waits : Request → ℕ → Answer
+  -- response, handshake: waiters completed, lowest numbers first, and a bare flush
+  completes : ℕ → Option Request → Answer
+  -- break: the attempt number, 0 on a redirect
+  attempt : ℕ → Answer
+  -- close, a verdict or failed attempt that goes on, a send reported failed
+  ok : Answer
+  -- next request: the replay is done
+  done : Answer
+  -- the call ended the session: cause, waiters completed before, waiters failed or dropped
+  ends : Cause → ℕ → ℕ → Answer
+
+pub record Result : Type 0 where
+  pub answer : Answer
+  pub session : Session
+
+abbrev pub answers : Answer → Session → Result
+answers a s = record { answer = a; session = s }
+
+-- ---- parts set anew
+
+abbrev pub setConnector : Connector → Worker → Worker
+setConnector c w = record {
+  connector = c;
+  replayBuffer = w .replayBuffer;
+  pendingRequests = w .pendingRequests;
+  persistedSize = w .persistedSize;
+  finalized = w .finalized;
+  selfFlushOutstanding = w .selfFlushOutstanding;
+}
+
+abbrev pub setMark : Bool → Worker → Worker
+setMark m w = record {
+  connector = w .connector;
+  replayBuffer = w .replayBuffer;
+  pendingRequests = w .pendingRequests;
+  persistedSize = w .persistedSize;
+  finalized = w .finalized;
+  selfFlushOutstanding = m;
+}
+
+abbrev pub setPending : List PendingRequest → Bool → Worker → Worker
+setPending ps f w = record {
+  connector = w .connector;
+  replayBuffer = w .replayBuffer;
+  pendingRequests = ps;
+  persistedSize = w .persistedSize;
+  finalized = f;
+  selfFlushOutstanding = w .selfFlushOutstanding;
+}
+
+abbrev pub setWorker : Worker → Session → Session
+setWorker w s = record {
+  limit = s .limit;
+  slots = s .slots;
+  phase = s .phase;
+  sent = s .sent;
+  made = s .made;
+  writeOffset = s .writeOffset;
+  runningCrc32c = s .runningCrc32c;
+  held = s .held;
+  worker = w;
+}
+
+abbrev pub setPhase : Phase → Sent → Session → Session
+setPhase p n s = record {
+  limit = s .limit;
+  slots = s .slots;
+  phase = p;
+  sent = n;
+  made = s .made;
+  writeOffset = s .writeOffset;
+  runningCrc32c = s .runningCrc32c;
+  held = s .held;
+  worker = s .worker;
+}
+
+-- ---- tests
+
+abbrev pub isNil {ℓ} : {A : Type ℓ} → List A → Bool
+isNil [] = true
+isNil (x ∷ xs) = false
+
+abbrev pub phaseNumber : Phase → ℕ
+phaseNumber live = 1
+phaseNumber (verdict r) = 2
+phaseNumber connecting = 3
+phaseNumber (replay i) = 4
+phaseNumber closing = 5
+phaseNumber (ended c) = 6
+
+abbrev pub isLive : Phase → Bool
+isLive p = eqb (phaseNumber p) 1
+
+abbrev pub isVerdict : Phase → Bool
+isVerdict p = eqb (phaseNumber p) 2
+
+abbrev pub isConnecting : Phase → Bool
+isConnecting p = eqb (phaseNumber p) 3
+
+abbrev pub isReplay : Phase → Bool
+isReplay p = eqb (phaseNumber p) 4
+
+abbrev pub isClosing : Phase → Bool
+isClosing p = eqb (phaseNumber p) 5
+
+abbrev pub isEnded : Phase → Bool
+isEnded p = eqb (phaseNumber p) 6
+
+abbrev pub chunks : Session → List ReplayChunk
+chunks s = s .worker .replayBuffer .queue
+
+abbrev pub waiters : Session → List PendingRequest
+waiters s = s .worker .pendingRequests
+
+-- the bytes of the chunks, joined
+abbrev pub bytesOf : List ReplayChunk → Bytes
+bytesOf [] = []
+bytesOf (c ∷ cs) = c .bytes ++ bytesOf cs
+
+unfoldable pub stored : Session → ℕ
+stored s = length (bytesOf (chunks s))
+
+-- "stored bytes are at or above capacity"
+unfoldable pub full : Session → Bool
+full s = leb (s .worker .replayBuffer .capacity) (stored s)
+
+-- "Watermark: no waiter, no own flush outstanding, stored ≥ capacity − 2 × C."
+unfoldable pub watermark : Session → Bool
+watermark s =
+    isNil (waiters s) && not (s .worker .selfFlushOutstanding) && leb (s .worker .replayBuffer .capacity - 2 * s .limit) (stored s)
+
+-- "after close or a finalise's waiter"
+unfoldable pub closed : Session → Bool
+closed s = isClosing (s .phase) || s .worker .finalized
+
+-- "no free chunk slot"
+unfoldable pub noSlot : Session → Bool
+noSlot s = leb (s .slots) (length (chunks s))
+
+-- "16 waiters wait, or 2^64 − 1 were made"
+unfoldable pub noWaiter : Session → Bool
+noWaiter s = leb 16 (length (waiters s)) || leb (2 ^ 64 - 1) (s .made)
+
+-- "a chunk would end past 2^63 − 1"
+unfoldable pub pastEnd : Bytes → Session → Bool
+pastEnd b s = ltZ (pos (2 ^ 63 - 1)) (s .writeOffset +ℤ pos (length b))
+
+-- "out buffer shorter than C"
+unfoldable pub shortOut : ℕ → Session → Bool
+shortOut out s = ltb out (s .limit)
+
+-- finalise was sent and no waiter is left
+unfoldable pub complete : Session → Bool
+complete s = s .worker .finalized && isNil (waiters s)
+
+-- ---- refusals and ends
+
+-- one of two results
+unfoldable pub choose : Bool → Result → Result → Result
+choose true x y = x
+choose false x y = y
+
+-- "A refused call changes nothing": the first row whose test holds refuses, with its number
+unfoldable pub unless : Session → List (Bool × ℕ) → Result → Result
+unless s [] r = r
+unless s (row ∷ rows) r = cond (row .0) (answers (refused (row .1)) s) (unless s rows r)
+
+-- the session ends: every waiter fails or is dropped; stored and held bytes stay
+unfoldable pub ending : Cause → ℕ → Session → Result
+ending c completed s =
+    answers (ends c completed (length (waiters s)))
+    (setPhase (ended c) nothing (setWorker (setPending [] (s .worker .finalized) (s .worker)) s))

@@ -1,0 +1,93 @@
+-- AppendObjectSpecState: what a reconnect dials with, in its two forms, and how responses and redirects update it (state.rs).
+-- The opening dial's own fields (access list, generation conditions, object size, initial chunk) are left out with that dial.
+use mathlib.Core.Option.{Option, none, some, Option·getD}
+use lib.IntN.{ℤ, pos}
+use Rattle.rules.specs.Message.{Bytes, Generation, Response, Redirect, generationOf}
+
+pub record WriteObjectSpec : Type 0 where
+  pub bucket : Bytes
+  pub object : Bytes
+  pub ifMetagenerationMatch : Option ℤ
+  pub ifMetagenerationNotMatch : Option ℤ
+
+pub record AppendObjectSpec : Type 0 where
+  pub bucket : Bytes
+  pub object : Bytes
+  pub generation : Generation
+  pub writeHandle : Option Bytes
+  pub routingToken : Option Bytes
+  pub ifMetagenerationMatch : Option ℤ
+  pub ifMetagenerationNotMatch : Option ℤ
+
+-- the Write form, with its routing token, creates an object; the Append form takes one over
+pub data AppendObjectSpecState : Type 0 where
+  writeForm : WriteObjectSpec → Option Bytes → AppendObjectSpecState
+  appendForm : AppendObjectSpec → AppendObjectSpecState
+
+abbrev pub bucketOf : AppendObjectSpecState → Bytes
+bucketOf (writeForm w t) = w .bucket
+bucketOf (appendForm a) = a .bucket
+
+abbrev pub objectOf : AppendObjectSpecState → Bytes
+objectOf (writeForm w t) = w .object
+objectOf (appendForm a) = a .object
+
+abbrev pub tokenOf : AppendObjectSpecState → Option Bytes
+tokenOf (writeForm w t) = t
+tokenOf (appendForm a) = a .routingToken
+
+abbrev pub handleOf : AppendObjectSpecState → Option Bytes
+handleOf (writeForm w t) = none
+handleOf (appendForm a) = a .writeHandle
+
+-- the new one where it is given
+abbrev pub refreshed : Option Bytes → Option Bytes → Option Bytes
+refreshed none old = old
+refreshed (some new) old = some new
+
+-- the Append form that a Write form turns into
+abbrev pub appended : WriteObjectSpec → Generation → Option Bytes → Option Bytes → AppendObjectSpec
+appended w g handle token = record {
+  bucket = w .bucket;
+  object = w .object;
+  generation = g;
+  writeHandle = handle;
+  routingToken = token;
+  ifMetagenerationMatch = w .ifMetagenerationMatch;
+  ifMetagenerationNotMatch = w .ifMetagenerationNotMatch;
+}
+
+-- generation, handle and token set anew
+abbrev pub renewed : Generation → Option Bytes → Option Bytes → AppendObjectSpec → AppendObjectSpec
+renewed g handle token a = record {
+  bucket = a .bucket;
+  object = a .object;
+  generation = g;
+  writeHandle = handle;
+  routingToken = token;
+  ifMetagenerationMatch = a .ifMetagenerationMatch;
+  ifMetagenerationNotMatch = a .ifMetagenerationNotMatch;
+}
+
+-- handle_response: a resource's generation and a given handle are taken over
+abbrev pub noted : Response → AppendObjectSpec → AppendObjectSpec
+noted m a = renewed (Option·getD (generationOf (m .writeStatus)) (a .generation)) (refreshed (m .writeHandle) (a .writeHandle)) (a .routingToken) a
+
+-- after a response the form is Append
+unfoldable pub handleResponse : Response → AppendObjectSpecState → AppendObjectSpec
+handleResponse m (writeForm w token) =
+    appended w (Option·getD (generationOf (m .writeStatus)) (record { number = pos 0 })) (m .writeHandle) token
+handleResponse m (appendForm a) = noted m a
+
+-- "a status with redirect detail replaces the token, even by none, and handle and generation where it has them"
+abbrev pub redirected : Redirect → AppendObjectSpec → AppendObjectSpec
+redirected r a = renewed (Option·getD (r .generation) (a .generation)) (refreshed (r .writeHandle) (a .writeHandle)) (r .routingToken) a
+
+-- handle_redirect: a Write form stays one while it has no generation to append to
+abbrev pub redirectedWrite : Option Generation → Redirect → WriteObjectSpec → AppendObjectSpecState
+redirectedWrite none r w = writeForm w (r .routingToken)
+redirectedWrite (some g) r w = appendForm (appended w g (r .writeHandle) (r .routingToken))
+
+unfoldable pub handleRedirect : Redirect → AppendObjectSpecState → AppendObjectSpecState
+handleRedirect r (writeForm w token) = redirectedWrite (r .generation) r w
+handleRedirect r (appendForm a) = appendForm (redirected r a)

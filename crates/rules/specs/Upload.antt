@@ -1,0 +1,183 @@
+-- "Calls while live": append, flush, finalise, close (transport.rs, coalescing_buffer.rs, `process_intent` of worker.rs).
+use mathlib.Core.Bool.{Bool, true, false, not, cond, _&&_, _||_}
+use mathlib.Core.Option.{Option, none, some}
+use mathlib.Core.List.{List, [], _∷_, _++_}
+use Prim.Native.Nat.{ℕ, suc, _-_, min}
+use lib.ListN.{length, take}
+use lib.Dec.{leb}
+use lib.IntN.{ℤ, pos, _+ℤ_}
+use Rattle.crc32c.specs.Reg.{crcOf, joined}
+use Rattle.rules.specs.Message.{Bytes, ChecksummedData, Request}
+use Rattle.rules.specs.Session.{ReplayChunk, PendingKind, flushing, finalizing, PendingRequest, Worker, Phase, closing, Sent, nothing, aRequest, Session, took, sends, waits, ok, Result, answers, setMark, setPending, setWorker, setPhase, isNil, isLive, isEnded, chunks, waiters, full, watermark, closed, noSlot, noWaiter, pastEnd, shortOut, choose, unless}
+
+-- ---- a chunk is cut
+
+-- the bytes b as a chunk at the write offset
+abbrev pub chunkOf : Bytes → Session → ReplayChunk
+chunkOf b s = record { writeOffset = s .writeOffset; bytes = b; crc32c = crcOf b }
+
+-- "A chunk request has offset, bytes, CRC32C"; under the watermark it "also sets flush and state lookup"
+abbrev pub chunkRequest : ReplayChunk → Bool → Request
+chunkRequest c flushes = record {
+  writeOffset = c .writeOffset;
+  checksummedData = some (record { content = c .bytes; crc32c = c .crc32c });
+  objectChecksum = none;
+  stateLookup = flushes;
+  flush = flushes;
+  finishWrite = false;
+}
+
+abbrev pub pushed : ReplayChunk → Worker → Worker
+pushed c w = record {
+  connector = w .connector;
+  replayBuffer = record { queue = w .replayBuffer .queue ++ (c ∷ []); capacity = w .replayBuffer .capacity };
+  pendingRequests = w .pendingRequests;
+  persistedSize = w .persistedSize;
+  finalized = w .finalized;
+  selfFlushOutstanding = w .selfFlushOutstanding;
+}
+
+-- "joins the chunk's sum to a known running sum"
+abbrev pub joinedSum : Option ℕ → Bytes → Option ℕ
+joinedSum none b = none
+joinedSum (some sum) b = some (joined sum (crcOf b) (length b))
+
+-- b is cut as one chunk: "a cut moves [the write offset] by the chunk's length"
+abbrev pub stores : Bytes → Session → Session
+stores b s = record {
+  limit = s .limit;
+  slots = s .slots;
+  phase = s .phase;
+  sent = aRequest;
+  made = s .made;
+  writeOffset = s .writeOffset +ℤ pos (length b);
+  runningCrc32c = joinedSum (s .runningCrc32c) b;
+  held = [];
+  worker = pushed (chunkOf b s) (s .worker);
+}
+
+-- "The request of a newly cut chunk, counted as stored, then also sets flush and state lookup, and marks an own flush."
+abbrev pub cutRequest : Bytes → Session → Request
+cutRequest b s = chunkRequest (chunkOf b s) (watermark (stores b s))
+
+abbrev pub cuts : Bytes → Session → Session
+cuts b s = setWorker (setMark (s .worker .selfFlushOutstanding || watermark (stores b s)) ((stores b s) .worker)) (stores b s)
+
+-- ---- append
+
+-- "Append takes the smaller of its length and C − held."
+abbrev pub room : Bytes → Session → ℕ
+room d s = min (length d) (s .limit - length (s .held))
+
+abbrev pub holding : Bytes → Session → Bytes
+holding d s = s .held ++ take (room d s) d
+
+unfoldable pub holds : Bytes → Session → Session
+holds b s = record {
+  limit = s .limit;
+  slots = s .slots;
+  phase = s .phase;
+  sent = nothing;
+  made = s .made;
+  writeOffset = s .writeOffset;
+  runningCrc32c = s .runningCrc32c;
+  held = b;
+  worker = s .worker;
+}
+
+-- an append of at least a byte. "Held bytes reaching C are cut as one chunk"; "an append that cuts nothing needs no phase but not ended"
+unfoldable pub appends : Bytes → ℕ → Session → Result
+appends d out s =
+    let b = holding d s in
+    let full-chunk = leb (s .limit) (length b) in
+    unless s
+    ((isEnded (s .phase), 7)
+    ∷ (closed s, 12)
+    ∷ (full-chunk && not (isLive (s .phase)), 6)
+    ∷ (full-chunk && shortOut out s, 11)
+    ∷ (full-chunk && full s, 8)
+    ∷ (full-chunk && noSlot s, 9)
+    ∷ (full-chunk && pastEnd b s, 10)
+    ∷ [])
+    (choose full-chunk
+    (answers (took (room d s) (some (cutRequest b s))) (cuts b s))
+    (answers (took (room d s) none) (holds b s)))
+
+-- ---- flush and finalise
+
+-- "The flush request sets flush and state lookup; finalise sets finish and flush, and the running sum if known."
+abbrev pub flushRequest : ℤ → Request
+flushRequest at = record {
+  writeOffset = at;
+  checksummedData = none;
+  objectChecksum = none;
+  stateLookup = true;
+  flush = true;
+  finishWrite = false;
+}
+
+abbrev pub finishRequest : ℤ → Option ℕ → Request
+finishRequest at sum = record {
+  writeOffset = at;
+  checksummedData = none;
+  objectChecksum = sum;
+  stateLookup = false;
+  flush = true;
+  finishWrite = true;
+}
+
+abbrev pub requestFor : PendingKind → Session → Request
+requestFor flushing s = flushRequest (s .writeOffset)
+requestFor finalizing s = finishRequest (s .writeOffset) (s .runningCrc32c)
+
+abbrev pub isFinalizing : PendingKind → Bool
+isFinalizing flushing = false
+isFinalizing finalizing = true
+
+abbrev pub waiterOf : PendingKind → Session → PendingRequest
+waiterOf k s = record { kind = k; request = requestFor k s }
+
+-- the session with one more waiter
+abbrev pub awaits : PendingKind → Session → Session
+awaits k s = record {
+  limit = s .limit;
+  slots = s .slots;
+  phase = s .phase;
+  sent = aRequest;
+  made = suc (s .made);
+  writeOffset = s .writeOffset;
+  runningCrc32c = s .runningCrc32c;
+  held = s .held;
+  worker = setPending (waiters s ++ (waiterOf k s ∷ [])) (s .worker .finalized || isFinalizing k) (s .worker);
+}
+
+-- "Flush, and finalise, with held bytes cut them as one chunk and make no waiter; the call is repeated. With none held they send their
+-- request and make a waiter, numbered 1, 2, ..."
+unfoldable pub asks : PendingKind → ℕ → Session → Result
+asks k out s =
+    let b = s .held in
+    let some-held = not (isNil b) in
+    unless s
+    ((isEnded (s .phase), 7)
+    ∷ (closed s, 12)
+    ∷ (not (isLive (s .phase)), 6)
+    ∷ (some-held && shortOut out s, 11)
+    ∷ (full s, 8)
+    ∷ (cond some-held (noSlot s) (noWaiter s), 9)
+    ∷ (some-held && pastEnd b s, 10)
+    ∷ [])
+    (choose some-held
+    (answers (sends (cutRequest b s)) (cuts b s))
+    (answers (waits (requestFor k s) (suc (s .made))) (awaits k s)))
+
+-- ---- close
+
+-- "Close needs the live phase and stored below capacity. Held bytes are not sent."
+unfoldable pub closes : Session → Result
+closes s =
+    unless s
+    ((isEnded (s .phase), 7)
+    ∷ (not (isLive (s .phase)), 6)
+    ∷ (full s, 8)
+    ∷ [])
+    (answers ok (setPhase closing nothing s))
