@@ -1,0 +1,165 @@
+// Ported from google-cloud-storage 1.21.0, src/storage/bidi_write.rs (Apache-2.0); changed: no tasks, channels or heap.
+// The messages that a session sends and is told. Bytes stand beside a record: a request's data at the front of the out buffer, a handle or a token in a slice.
+ghost use mathlib.Core.Path.{_≡_};
+ghost use Prim.Native.Nat.{_<_, _^_};
+ghost use lib.IntN.{pos};
+ghost use lib.Signed.{ltZ};
+ghost use Rattle.bidi_write.specs.Numbers.{toℕ};
+ghost use Rattle.bidi_write.specs.View.{sizeOf, statusOf};
+ghost use Rattle.rules.specs.Message.{isFinalized};
+ghost use Rattle.rules.specs.Message as M;
+
+// Maximum payload chunk size for a single write request (2 MiB).
+pub const MAX_WRITE_CHUNK_SIZE: usize = 2 * 1024 * 1024;
+
+// An offset in the object, or a size of it.
+pub struct Offset(pub i64);
+
+// A generation of the object.
+pub struct Generation(pub i64);
+
+// A CRC32C, where it is known.
+pub enum Checksum {
+    Unknown,
+    Known(u32),
+}
+
+// The data of a request: its bytes fill the front of the out buffer.
+pub struct ChecksummedData {
+    pub length: usize,
+    pub crc32c: u32,
+}
+
+pub enum Data {
+    Absent,
+    Checksummed(ChecksummedData),
+}
+
+// A request after opening. First message and request parameters are absent in all of them.
+pub struct Request {
+    pub write_offset: Offset,
+    pub data: Data,
+    pub object_checksums: Checksum,
+    pub state_lookup: bool,
+    pub flush: bool,
+    pub finish_write: bool,
+}
+
+pub struct Resource {
+    pub size: Offset,
+    pub generation: Generation,
+    pub finalized: bool,
+}
+
+pub enum WriteStatus {
+    Absent,
+    PersistedSize(Offset),
+    Resource(Resource),
+}
+
+// A response; the handle's bytes come beside it.
+pub struct Response {
+    pub write_status: WriteStatus,
+    pub has_write_handle: bool,
+}
+
+pub enum NewGeneration {
+    Absent,
+    Given(Generation),
+}
+
+// The detail of a status that redirects; the token's and the handle's bytes come beside it.
+pub struct Redirect {
+    pub has_routing_token: bool,
+    pub has_write_handle: bool,
+    pub generation: NewGeneration,
+}
+
+pub enum Detail {
+    Absent,
+    Redirect(Redirect),
+}
+
+pub struct Status {
+    pub code: u32,
+    pub detail: Detail,
+}
+
+// How a stream broke.
+pub enum Break {
+    EndOfStream,
+    Status(Status),
+    Error,
+}
+
+// Why a session ended.
+pub enum Cause {
+    Finished,
+    Regressed,
+    AlreadyFinalized,
+    Permanent,
+    Exhausted,
+    GivenUp,
+    StreamError,
+}
+
+pub enum Size {
+    Absent,
+    Stated(Offset),
+}
+
+// The acknowledged byte count that a response states.
+pub fn persisted_size(s: WriteStatus) -> Size
+    ensures { λ r. ⌜ sizeOf r ≡ M.sizeOf (statusOf s) ⌝ }
+{
+    match s {
+        WriteStatus::Absent => Size::Absent,
+        WriteStatus::PersistedSize(n) => Size::Stated(n),
+        WriteStatus::Resource(r) => {
+            let n = r.size;
+            Size::Stated(n)
+        }
+    }
+}
+
+// Whether a response reports an object that the service finalized.
+pub fn is_finalized(s: WriteStatus) -> bool
+    ensures { λ r. ⌜ r ≡ isFinalized (statusOf s) ⌝ }
+{
+    match s {
+        WriteStatus::Absent => false,
+        WriteStatus::PersistedSize(_) => false,
+        WriteStatus::Resource(r) => r.finalized,
+    }
+}
+
+// The order of sizes and offsets, below, at and above zero.
+pub fn below(a: Offset, b: Offset) -> bool
+    ensures { λ r. ⌜ r ≡ ltZ (a .0) (b .0) ⌝ }
+{
+    let x = a.0;
+    let y = b.0;
+    x < y
+}
+
+pub fn is_negative(a: Offset) -> bool
+    ensures { λ r. ⌜ r ≡ ltZ (a .0) (pos 0) ⌝ }
+{
+    let x = a.0;
+    x < 0
+}
+
+// The number, and 0 for one below 0.
+pub fn to_nat(a: Offset) -> u64
+    ensures { λ r. ⌜ (r ≡ toℕ (a .0)) × (r < 2 ^ 63) ⌝ }
+{
+    let x = a.0;
+    if x < 0 { 0 } else { x as u64 }
+}
+
+pub fn from_nat(n: u64) -> Offset
+    requires { ⌜ n < 2 ^ 63 ⌝ }
+    ensures { λ r. ⌜ r ≡ record { 0 = pos n } ⌝ }
+{
+    Offset(n as i64)
+}

@@ -1,0 +1,2 @@
+-- What the contracts of the coalescing buffer cite.
+pub mod Held

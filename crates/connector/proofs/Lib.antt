@@ -1,0 +1,3 @@
+pub mod Detail
+pub mod Counts
+pub mod Prefix

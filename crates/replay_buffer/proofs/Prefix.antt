@@ -1,0 +1,137 @@
+-- The chunks at the front that end at or below a size (`frontOf` of specs/Ack.antt), and what the rule of an acknowledgement does at the next.
+-- Assumes nothing.
+use mathlib.Core.Path.{_≡_, refl, sym, ap, _∙_}
+use mathlib.Core.Bool.{Bool, true, false}
+use mathlib.Core.Logic.{_⊎_, inl, inr, ⊎-elim}
+use mathlib.Core.List.{List, [], _∷_}
+use Prim.Native.Nat.{ℕ, zero, suc, _+_, _-_, _<_, _≤_, _^_}
+use native.Mathlib.Nat.{add-zero, add-assoc, suc-ne-zero}
+use native.Mathlib.Numerals.{add-one}
+use native.Mathlib.Omega.{arith}
+use borrow.Author.Tests.{lt-ltb, le-ltb, le-leb, lt-leb, leb-false}
+use lib.Dec.{leb}
+use lib.IntN.{pos, negsuc, natAbs, _-ℤ_}
+use lib.ListN.{length, take, drop, getD, length-drop, drop-of-length-le}
+use lib.Seq.{length-take-le, drop-cons, drop-drop}
+use Rattle.crc32c.specs.Reg.{crcOf}
+use Rattle.rules.specs.Respond.{ack}
+use Rattle.ring.specs.Word.{packed, lenOf}
+use Rattle.ring.proofs.Paste.{drop-take-add}
+use Rattle.ring.proofs.Words.{len-packed, sum-packed}
+use Rattle.replay_buffer.specs.View.{chunksOf, total}
+use Rattle.replay_buffer.specs.Ack.{nothing, after, frontOf, Above}
+use Rattle.replay_buffer.specs.declared.Front.{Front}
+
+same-front : (i j m n : ℕ) → i ≡ j → m ≡ n → _≡_ {A = Front} (record { chunks = i; bytes = m }) (record { chunks = j; bytes = n })
+same-front i j m n e f = rw (e, f)
+
+-- ---- the loop, which has passed i chunks of n bytes; the next begins at `at`
+
+pub after-none : (f : Front) → f ≡ after 0 0 f
+after-none f = same-front _ _ _ _ (omega arith) (omega arith)
+
+after-all : (i n : ℕ) → after i n nothing ≡ record { chunks = i; bytes = n }
+after-all i n = same-front _ _ _ _ (omega arith) (omega arith)
+
+module _ (p start at n i : ℕ) (ws : List ℕ) (e : frontOf p start ws ≡ after i n (frontOf p at (drop i ws))) where
+  module _ (len : ℕ) (h : i < length ws) (el : len ≡ lenOf (getD ws i 0)) where
+    pub loop-more : at + len ≤ p → frontOf p start ws ≡ after (i + 1) (n + len) (frontOf p (at + len) (drop (i + 1) ws))
+    loop-more l =
+        let g : at + lenOf (getD ws i 0) ≤ p = omega arith in
+        e ∙ rw (el, drop-cons ws i 0 h, le-leb (at + lenOf (getD ws i 0)) p g, add-one i) (same-front _ _ _ _ (omega arith) (omega arith))
+
+    pub loop-stop : p < at + len → record { chunks = i; bytes = n } ≡ frontOf p start ws
+    loop-stop l =
+        let g : p < at + lenOf (getD ws i 0) = omega arith in
+        let z : frontOf p at (drop i ws) ≡ nothing = rw (drop-cons ws i 0 h, lt-leb (at + lenOf (getD ws i 0)) p g) in
+        sym (e ∙ ap (after i n) z ∙ after-all i n)
+
+  pub loop-end : length ws ≤ i → record { chunks = i; bytes = n } ≡ frontOf p start ws
+  loop-end h =
+      let z : frontOf p at (drop i ws) ≡ nothing = rw (drop-of-length-le ws h) in
+      sym (e ∙ ap (after i n) z ∙ after-all i n)
+
+-- ---- what it is
+
+by-leb : (a b : ℕ) → (leb a b ≡ true) ⊎ (leb a b ≡ false)
+by-leb a b = either (leb a b)
+  where
+    either : (c : Bool) → (c ≡ true) ⊎ (c ≡ false)
+    either true = inl refl
+    either false = inr refl
+
+one-add : (n : ℕ) → 1 + n ≡ suc n
+one-add n = omega arith
+
+pub front-chunks : (p o : ℕ) (ws : List ℕ) → frontOf p o ws .chunks ≤ length ws
+front-chunks p o [] = omega arith
+front-chunks p o (w ∷ ws) =
+    ⊎-elim
+    (λ (h : leb (o + lenOf w) p ≡ true). rw h (omega (arith, front-chunks p (o + lenOf w) ws)))
+    (λ (h : leb (o + lenOf w) p ≡ false). rw h (omega arith))
+    (by-leb (o + lenOf w) p)
+
+pub front-total : (p o : ℕ) (ws : List ℕ) → total (drop (frontOf p o ws .chunks) ws) + frontOf p o ws .bytes ≡ total ws
+front-total p o [] = omega arith
+front-total p o (w ∷ ws) =
+    ⊎-elim
+    (λ (h : leb (o + lenOf w) p ≡ true). rw (h, one-add) (omega (arith, front-total p (o + lenOf w) ws)))
+    (λ (h : leb (o + lenOf w) p ≡ false). rw h (omega arith))
+    (by-leb (o + lenOf w) p)
+
+pub front-above : (p o : ℕ) (ws : List ℕ) → Above p (o + frontOf p o ws .bytes) (drop (frontOf p o ws .chunks) ws)
+front-above p o [] = tt
+front-above p o (w ∷ ws) =
+    ⊎-elim
+    (λ (h : leb (o + lenOf w) p ≡ true). rw (h, one-add, ← add-assoc) (front-above p (o + lenOf w) ws))
+    (λ (h : leb (o + lenOf w) p ≡ false). rw h (omega (arith, leb-false (o + lenOf w) p h)))
+    (by-leb (o + lenOf w) p)
+
+-- ---- what the rule does with it, and with the chunk behind it
+
+-- no chunk ends below zero
+pub ack-negative : (n o : ℕ) (ws bs : List ℕ) → ack (negsuc n) (chunksOf o ws bs) ≡ chunksOf o ws bs
+unfolding ack
+ack-negative n o [] bs = refl
+ack-negative n o (w ∷ ws) bs = refl
+
+pub ack-front : (p o : ℕ) (ws bs : List ℕ) → total ws ≤ length bs
+    → ack (pos p) (chunksOf o ws bs) ≡ ack (pos p) (chunksOf (o + frontOf p o ws .bytes) (drop (frontOf p o ws .chunks) ws) (drop (frontOf p o ws .bytes) bs))
+unfolding ack
+ack-front p o [] bs e = refl
+ack-front p o (w ∷ ws) bs e =
+    let n : length (take (lenOf w) bs) ≡ lenOf w = length-take-le (lenOf w) bs (omega arith) in
+    let r : total ws ≤ length (drop (lenOf w) bs) = simp length-drop (omega arith) in
+    ⊎-elim
+    (λ (h : leb (o + lenOf w) p ≡ true).
+    rw (n, h, one-add, ← add-assoc, ← drop-drop (frontOf p (o + lenOf w) ws .bytes) (lenOf w) bs) (ack-front p (o + lenOf w) ws (drop (lenOf w) bs) r))
+    (λ (h : leb (o + lenOf w) p ≡ false). rw (h, add-zero))
+    (by-leb (o + lenOf w) p)
+
+pub ack-none : (p o : ℕ) (ws bs : List ℕ) → length ws ≡ 0 → ack (pos p) (chunksOf o ws bs) ≡ chunksOf o ws bs
+unfolding ack
+ack-none p o [] bs h = refl
+ack-none p o (w ∷ ws) bs h = absurd (suc-ne-zero (length ws) h)
+
+pub ack-below : (p o : ℕ) (ws bs : List ℕ) → p ≤ o → Above p o ws → total ws ≤ length bs → ack (pos p) (chunksOf o ws bs) ≡ chunksOf o ws bs
+unfolding ack
+ack-below p o [] bs h a e = refl
+ack-below p o (w ∷ ws) bs h a e =
+    let n : length (take (lenOf w) bs) ≡ lenOf w = length-take-le (lenOf w) bs (omega arith) in
+    rw (n, lt-leb (o + lenOf w) p a, le-ltb o p h)
+
+distance : (p o : ℕ) → o < p → natAbs (pos p -ℤ pos o) ≡ p - o
+distance p zero h = omega arith
+distance p (suc o) h = rw (le-ltb p (suc o) (omega arith))
+
+-- d bytes go, r stay
+pub ack-within : (p o w d r sum : ℕ) (ws bs : List ℕ) → o < p → p ≡ o + d → p < o + lenOf w → lenOf w ≡ d + r → lenOf w ≤ length bs → r < 2 ^ 32
+    → sum ≡ crcOf (take r (drop d bs)) → chunksOf p (packed r sum ∷ ws) (drop d bs) ≡ ack (pos p) (chunksOf o (w ∷ ws) bs)
+unfolding ack
+ack-within p o w d r sum ws bs h ep a ew hb hr es =
+    let n : length (take (lenOf w) bs) ≡ lenOf w = length-take-le (lenOf w) bs hb in
+    let x : natAbs (pos p -ℤ pos o) ≡ d = omega (arith, distance p o h) in
+    let y : drop d (take (lenOf w) bs) ≡ take r (drop d bs) = ap (λ (m : ℕ). drop d (take m bs)) ew ∙ drop-take-add d r bs (omega arith) in
+    let z : p + r ≡ o + lenOf w = omega arith in
+    let q : drop r (drop d bs) ≡ drop (lenOf w) bs = drop-drop r d bs ∙ ap (λ (m : ℕ). drop m bs) (sym ew) in
+    rw (n, lt-leb (o + lenOf w) p a, lt-ltb o p h, x, y, len-packed r sum hr, sum-packed r sum hr, z, q, es)

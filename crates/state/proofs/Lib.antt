@@ -1,0 +1,4 @@
+pub mod Copied
+pub mod Opened
+pub mod Overlong
+pub mod Renewed

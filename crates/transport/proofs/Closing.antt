@@ -1,0 +1,64 @@
+-- Close: what the code tests and leaves is what the rule says.
+-- Assumes nothing.
+use mathlib.Core.Path.{_≡_, refl, sym, ap, _∙_}
+use mathlib.Core.Bool.{Bool, true, false, not}
+use mathlib.Core.List.{List, []}
+use Prim.Native.Nat.{ℕ}
+use native.Mathlib.Omega.{arith}
+use lib.Dec.{leb, eqb}
+use Rattle.rules.specs.Message.{Bytes}
+use Rattle.rules.specs.Session as R
+use Rattle.rules.specs.Upload.{closes}
+use Rattle.rules.specs.Step.{step}
+use Rattle.transport.specs.View.{phaseOf, numberOf, view}
+use Rattle.transport.specs.Valid.{Valid}
+use Rattle.transport.specs.Promise.{Promise}
+use Rattle.transport.specs.Check.{checked, rows}
+use Rattle.transport.specs.Parts.{setPhase}
+use Rattle.transport.specs.declared.Session.{Session}
+use Rattle.transport.specs.declared.Phase.the-variants as phase
+use Rattle.transport.specs.declared.Sent.the-variants as sent
+use Rattle.transport.specs.declared.Answer.the-variants as answer
+use Rattle.transport.specs.declared.Refusal.{Refusal}
+use Rattle.transport.specs.declared.Check.{Check}
+use Rattle.transport.specs.declared.Check.the-variants as check
+use Rattle.transport.proofs.Refused.{refused, passed, first-false, refusal}
+use Rattle.transport.proofs.Numbers.{full-is}
+use Rattle.transport.proofs.Views.{view-phase, valid-phase}
+
+-- what the code tests: a phase's number, and whether the store is full
+abbrev pub closeTests : ℕ → Bool → Check
+closeTests n full = checked (rows (eqb n 6) false (not (eqb n 1)) false false false full false false)
+
+rule-refuses : (v : R.Session) (x : Refusal) → closeTests (R.phaseNumber (v .phase)) (R.full v) ≡ check.Refuse x → step R.close v ≡ R.answers (R.refused (numberOf x)) v
+unfolding step closes R.unless
+rule-refuses v x e = refused v _ x _ e
+
+rule-accepts : (v : R.Session) → closeTests (R.phaseNumber (v .phase)) (R.full v) ≡ check.Go → step R.close v ≡ R.answers R.ok (R.setPhase R.closing R.nothing v)
+unfolding step closes R.unless
+rule-accepts v e = passed v _ _ e
+
+module _ (s : Session) (store : Bytes) (table : List ℕ) (n : ℕ) (phase-is : n ≡ R.phaseNumber (phaseOf (s .phase))) where
+  abbrev b-full : Bool
+  b-full = leb (s .worker .«replay_buffer» .capacity) (s .worker .«replay_buffer» .«unpersisted_bytes»)
+
+  at-view : (o : Check) → closeTests n b-full ≡ o → Valid s store table → closeTests (R.phaseNumber ((view s store table) .phase)) (R.full (view s store table)) ≡ o
+  unfolding view
+  at-view o e v = rw (sym phase-is, sym (full-is s store table v)) e
+
+  pub close-refuses : (x : Refusal) → closeTests n b-full ≡ check.Refuse x → Promise R.close s store table [] (record { session = s; answer = answer.Refused x }) store table []
+  close-refuses x e = refusal R.close s store table [] x (λ v. rule-refuses (view s store table) x (at-view (check.Refuse x) e v))
+
+  pub close-accepts : closeTests n b-full ≡ check.Go
+      → Promise R.close s store table [] (record { session = setPhase phase.Closing sent.Nothing s; answer = answer.Accepted }) store table []
+  close-accepts e = record {
+    refuses = λ x f. absurd (no-refusal x f);
+    store-beyond = refl;
+    table-beyond = refl;
+    out-beyond = refl;
+    steps = λ v. ap (R.answers R.ok) (view-phase phase.Closing sent.Nothing s store table) ∙ sym (rule-accepts (view s store table) (at-view check.Go e v));
+    stays = λ v. valid-phase phase.Closing sent.Nothing s store table v (λ _. v .followed (ap (λ (k : ℕ). eqb k 6) (sym phase-is) ∙ first-false _ _ _ e)) tt;
+  }
+    where
+      no-refusal : (x : Refusal) → answer.Accepted ≡ answer.Refused x → ⊥
+      no-refusal x f = let z : _≡_ {A = ℕ} 0 1 = cc in absurd (omega arith)

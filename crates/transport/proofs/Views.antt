@@ -1,0 +1,43 @@
+-- The view and validity of a record with a part anew.
+-- Assumes nothing.
+use mathlib.Core.Path.{_≡_, refl, sym, ap, _∙_}
+use mathlib.Core.Bool.{Bool, true, false}
+use mathlib.Core.List.{List}
+use Prim.Native.Nat.{ℕ, _≤_}
+use lib.ListN.{length}
+use lib.Dec.{eqb}
+use borrow.Author.Tests.{eqb-true}
+use Rattle.rules.specs.Message.{Bytes}
+use Rattle.rules.specs.Session as R
+use Rattle.replay_buffer.specs.View.{wordsOf}
+use Rattle.transport.specs.View.{phaseOf, sentOf, lentOf, view}
+use Rattle.transport.specs.Valid.{owed, CursorAt, Valid}
+use Rattle.transport.specs.Parts.{setPhase}
+use Rattle.transport.specs.declared.Phase.{Phase}
+use Rattle.transport.specs.declared.Phase.the-variants as phase
+use Rattle.transport.specs.declared.Sent.{Sent}
+use Rattle.transport.specs.declared.Session.{Session}
+use Rattle.transport.proofs.Tests.{clash}
+
+pub view-phase : (p : Phase) (n : Sent) (s : Session) (store : Bytes) (table : List ℕ)
+    → view (setPhase p n s) store table ≡ R.setPhase (phaseOf p) (sentOf n) (view s store table)
+unfolding view
+view-phase p n s store table = refl
+
+pub valid-phase : (p : Phase) (n : Sent) (s : Session) (store : Bytes) (table : List ℕ) → Valid s store table
+    → (R.isEnded (phaseOf p) ≡ false → s .worker .connector .«redirects_followed» ≤ 3)
+    → CursorAt p (wordsOf (lentOf s) (s .worker .«replay_buffer») table) (owed (s .worker))
+    → Valid (setPhase p n s) store table
+valid-phase p n s store table v f c = record { guarded = v .guarded; slots-in = v .slots-in; sound = v .sound; waiting-is = v .waiting-is; spec-fits = v .spec-fits; followed = f; cursor = c }
+
+-- only a replay has a cursor
+pub no-cursor : (p : Phase) (words : List ℕ) (owing : ℕ) → R.isReplay (phaseOf p) ≡ false → CursorAt p words owing
+no-cursor phase.Live words owing e = tt
+no-cursor phase.Closing words owing e = tt
+no-cursor phase.Connecting words owing e = tt
+no-cursor (phase.Verdict r) words owing e = tt
+no-cursor (phase.Replay c) words owing e = clash refl e
+no-cursor (phase.Ended c) words owing e = tt
+
+pub live-no-replay : (p : Phase) → R.isLive (phaseOf p) ≡ true → R.isReplay (phaseOf p) ≡ false
+live-no-replay p e = ap (λ (n : ℕ). eqb n 4) (eqb-true (R.phaseNumber (phaseOf p)) 1 e)

@@ -1,0 +1,12 @@
+-- What the contracts of the calls cite.
+pub mod View
+pub mod Valid
+pub mod Promise
+pub mod Check
+pub mod Parts
+pub mod Opening
+pub mod Upload
+pub mod Respond
+pub mod Follows
+pub mod Replay
+pub mod Claim

@@ -1,0 +1,47 @@
+// Close: "needs the live phase and stored below capacity. Held bytes are not sent."
+ghost use Rattle.rules.specs.Session as R;
+ghost use Rattle.transport.specs.Promise.{Promised};
+use crate::Answer;
+use crate::Check;
+use crate::Outcome;
+use crate::Phase;
+use crate::Sent;
+use crate::Session;
+use crate::checks::check;
+use crate::parts::set_phase;
+use crate::phases::ENDED;
+use crate::phases::LIVE;
+use crate::phases::phase_number;
+
+pub fn close(s: Session) -> Outcome
+    ensures { λ r. ⌜ Promised R.close s r ⌝ }
+{
+    let p = s.phase;
+    let phase = phase_number(p);
+    let b = s.worker.replay_buffer;
+    let full = b.capacity <= b.unpersisted_bytes;
+    let way = check(
+        phase == ENDED,
+        false,
+        phase != LIVE,
+        false,
+        false,
+        false,
+        full,
+        false,
+        false,
+    );
+    match way {
+        Check::Refuse(x) => Outcome {
+            session: s,
+            answer: Answer::Refused(x),
+        },
+        Check::Go => {
+            let t = set_phase(s, Phase::Closing, Sent::Nothing);
+            Outcome {
+                session: t,
+                answer: Answer::Accepted,
+            }
+        }
+    }
+}

@@ -1,0 +1,66 @@
+// The guard at the head of every call, for a record or memory that no call left.
+ghost use Rattle.transport.specs.Check.{Decides};
+ghost use Rattle.transport.specs.Valid.{Guarded};
+use bidi_write::Offset;
+use replay_buffer::ReplayBuffer;
+
+// Whether the numbers of a record stay within a store and a table of these lengths.
+pub fn guard(
+    limit: usize,
+    slots: usize,
+    held: usize,
+    write_offset: Offset,
+    b: ReplayBuffer,
+    waiting: usize,
+    store: usize,
+    table: usize,
+) -> bool
+    ensures { λ r. ⌜ Decides (Guarded limit slots held («write_offset» .0) b waiting store table) r ⌝ }
+{
+    let capacity = b.capacity;
+    let stored = b.unpersisted_bytes;
+    if limit == 0 {
+        return false;
+    }
+    if 2097152 < limit {
+        return false;
+    }
+    if capacity <= 2 * limit {
+        return false;
+    }
+    if 1073741824 < capacity {
+        return false;
+    }
+    let size = capacity + 2 * limit - 2;
+    if store < size {
+        return false;
+    }
+    if table < slots {
+        return false;
+    }
+    if size <= b.head {
+        return false;
+    }
+    if capacity + limit <= stored {
+        return false;
+    }
+    if limit <= held {
+        return false;
+    }
+    if slots <= b.first {
+        return false;
+    }
+    if slots < b.chunks {
+        return false;
+    }
+    if 16 < waiting {
+        return false;
+    }
+    if bidi_write::is_negative(write_offset) {
+        return false;
+    }
+    if bidi_write::to_nat(write_offset) < stored as u64 {
+        return false;
+    }
+    true
+}

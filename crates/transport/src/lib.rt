@@ -1,0 +1,115 @@
+// Ported from google-cloud-storage 1.21.0, src/storage/bidi_write/transport.rs (Apache-2.0); changed: no tasks, channels or heap.
+// The session by value: its record, its answers, and every call.
+pub mod append;
+mod checks;
+pub mod close;
+mod cut;
+pub mod flush;
+mod guard;
+mod opened;
+pub mod opening;
+mod parts;
+mod phases;
+pub mod reconnect;
+pub mod replay;
+pub mod respond;
+pub mod send_failed;
+
+use bidi_write::Cause;
+use bidi_write::Checksum;
+use bidi_write::Offset;
+use bidi_write::Request;
+use worker::Worker;
+
+// How far a replay has come: the next request, and the bytes of the chunks before it.
+pub struct Cursor {
+    pub next: usize,
+    pub bytes: usize,
+}
+
+// A verdict is awaited on a redirect or not.
+pub enum Phase {
+    Live,
+    Closing,
+    Connecting,
+    Verdict(bool),
+    Replay(Cursor),
+    Ended(Cause),
+}
+
+// What the last accepted call sent.
+pub enum Sent {
+    Nothing,
+    Request,
+    BareFlush,
+}
+
+pub struct Session {
+    // the chunk limit in bytes
+    pub limit: usize,
+    // of the chunk table
+    pub slots: usize,
+    pub phase: Phase,
+    pub sent: Sent,
+    // waiters made so far
+    pub made: u64,
+    pub write_offset: Offset,
+    pub running_crc32c: Checksum,
+    // bytes held, which lie behind the stored ones
+    pub held: usize,
+    pub worker: Worker,
+}
+
+// Why a call was refused: document 01's numbers 1 to 13, in their order.
+pub enum Refusal {
+    Limits,
+    ShortMemory,
+    BadBucket,
+    TooLong,
+    Finalized,
+    WrongPhase,
+    Ended,
+    Full,
+    NoRoom,
+    PastEnd,
+    ShortOut,
+    Closed,
+    BadVerdict,
+}
+
+pub enum MaybeRequest {
+    Absent,
+    Present(Request),
+}
+
+// What a call answers. A refused call changes nothing.
+pub enum Answer {
+    Refused(Refusal),
+    // append: bytes taken, and the request of the chunk that was cut
+    Took(usize, MaybeRequest),
+    // flush, finalise: held bytes were cut, call again; next request: the one to send
+    Sends(Request),
+    // flush, finalise: the request, and the number of the waiter made
+    Waits(Request, u64),
+    // response, handshake: waiters completed, and a bare flush
+    Completes(usize, MaybeRequest),
+    // break: the attempt number, 0 on a redirect
+    Attempt(u32),
+    // close, a verdict or failed attempt that goes on, a send reported failed
+    Accepted,
+    // next request: the replay is done
+    Done,
+    // the session ended: cause, waiters completed before, waiters failed or dropped
+    Ends(Cause, usize, usize),
+}
+
+pub struct Outcome {
+    pub session: Session,
+    pub answer: Answer,
+}
+
+// Whether a call goes on.
+pub enum Check {
+    Go,
+    Refuse(Refusal),
+}

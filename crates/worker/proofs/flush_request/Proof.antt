@@ -1,0 +1,12 @@
+-- `worker::flush_request` meets its contract. Assumes nothing.
+use mathlib.Core.Path.{refl}
+use Rattle.bidi_write.specs.View.{requestOf}
+use Rattle.worker.proofs.flush_request.Statement.{statement}
+use Rattle.worker.proofs.flush_request.Tie as tie
+
+returns : tie.Need-returns
+unfolding requestOf
+returns c out = refl
+
+pub flush-request-spec : {M : Type 1} → statement M
+flush-request-spec = tie.close (tie.spec returns)
