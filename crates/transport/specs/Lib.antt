@@ -4,9 +4,4 @@ pub mod Valid
 pub mod Promise
 pub mod Check
 pub mod Parts
-pub mod Opening
-pub mod Upload
-pub mod Respond
-pub mod Follows
-pub mod Replay
 pub mod Claim

@@ -1,19 +1,10 @@
 // Ported from google-cloud-storage 1.21.0, src/storage/bidi_write/transport.rs (Apache-2.0); changed: no tasks, channels or heap.
-// The session by value: its record, its answers, and every call.
-pub mod append;
-mod checks;
+// The session by value: its record and answers, what every call shares, and close. The other calls are in crates above this one.
+pub mod checks;
 pub mod close;
-mod cut;
-pub mod flush;
-mod guard;
-mod opened;
-pub mod opening;
-mod parts;
-mod phases;
-pub mod reconnect;
-pub mod replay;
-pub mod respond;
-pub mod send_failed;
+pub mod guard;
+pub mod parts;
+pub mod phases;
 
 use bidi_write::Cause;
 use bidi_write::Checksum;

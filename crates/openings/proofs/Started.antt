@@ -1,0 +1,161 @@
+-- The session of an accepted opening is the rules' one, and valid.
+-- Assumes nothing.
+use mathlib.Core.Path.{_≡_, sym, ap, ap₂, _∙_, subst}
+use mathlib.Core.Bool.{false}
+use mathlib.Core.Option.{Option, Option·getD}
+use mathlib.Core.List.{List, []}
+use Prim.Native.Nat.{ℕ, _+_, _*_, _<_, _≤_, _^_, max}
+use native.Mathlib.Omega.{arith}
+use borrow.Author.Tests.{le-ltb}
+use lib.IntN.{ℤ, pos}
+use lib.Signed.{ltZ}
+use lib.ListN.{length}
+use Rattle.rules.specs.Message as M
+use Rattle.rules.specs.Message.{Bytes}
+use Rattle.rules.specs.Spec as S
+use Rattle.rules.specs.Session as R
+use Rattle.rules.specs.Opening as O
+use Rattle.ring.specs.Ring.{part}
+use Rattle.bidi_write.specs.Numbers.{toℕ}
+use Rattle.bidi_write.specs.View.{checksumOf, given, statusOf, responseOf}
+use Rattle.bidi_write.specs.declared.Checksum.{Checksum}
+use Rattle.bidi_write.specs.declared.Offset.{Offset}
+use Rattle.connector.specs.View.{connectorOf}
+use Rattle.connector.specs.declared.Connector.{Connector}
+use Rattle.replay_buffer.specs.View.{queueOf}
+use Rattle.replay_buffer.specs.declared.ReplayBuffer.{ReplayBuffer}
+use Rattle.worker.specs.View.{waitersOf, workerOf}
+use Rattle.worker.specs.declared.PendingRequests.{PendingRequests}
+use Rattle.transport.specs.View.{lentOf, view}
+use Rattle.transport.specs.Valid.{Valid}
+use Rattle.openings.specs.Opening.{Beside, askedOf, dialled, openingOf, Admitted, Connects, Stores, freshSession, Fresh, Starts}
+use Rattle.transport.specs.declared.Phase.the-variants as phase
+use Rattle.transport.specs.declared.Session.{Session}
+use Rattle.openings.specs.declared.opening.Opening.{Opening}
+use Rattle.openings.proofs.Admission.{not-over}
+use Rattle.openings.proofs.Payload.{larger-is, queue-at}
+
+abbrev payloadOf : Opening → Beside → Option Bytes
+payloadOf o b = given (o .«has_payload») (b .payload)
+
+abbrev sizeOf : Opening → ℤ
+sizeOf o = Option·getD (M.sizeOf (statusOf (o .response .«write_status»))) (pos 0)
+
+module _ (o : Opening) (b : Beside) (store : Bytes) (table : List ℕ) (admitted : Admitted o b (length store) (length table)) (slots-top : length table < 2 ^ 63)
+    (p at : Offset) (run : Checksum) (c : Connector) (buffer : ReplayBuffer) (q : PendingRequests) (store′ : Bytes) (table′ : List ℕ)
+    (capacity-is : buffer .capacity ≡ max (Option·getD (askedOf (o .capacity)) 33554432) (2 * o .limit + 1))
+    (size-is : p .0 ≡ sizeOf o)
+    (connects : Connects o (b .bucket) (b .object) (b .writeHandle) (b .routingToken) (b .responseHandle) c)
+    (stores : Stores (o .limit) (buffer .capacity) (payloadOf o b) (p .0) store table buffer store′ table′)
+    (at-is : at .0 ≡ O.larger (p .0) (pos (O.payloadLength (payloadOf o b)))) (at-top : toℕ (at .0) < 2 ^ 63)
+    (run-is : checksumOf run ≡ O.openSum (payloadOf o b) (p .0) (checksumOf (o .checksum)))
+    (none-waits : waitersOf q ≡ []) (count-is : q .count ≡ 0) where
+  abbrev left : Session
+  left = freshSession (o .limit) (length table) phase.Live at run c buffer p q
+
+  offset : at .0 ≡ pos (max (toℕ (p .0)) (O.payloadLength (payloadOf o b)))
+  offset = at-is ∙ larger-is (p .0) (O.payloadLength (payloadOf o b))
+
+  offset-nat : toℕ (at .0) ≡ max (toℕ (p .0)) (O.payloadLength (payloadOf o b))
+  offset-nat = ap toℕ offset
+
+  left-valid : Valid left store′ table′
+  left-valid =
+      let n : O.payloadLength (payloadOf o b) ≤ o .limit = not-over (o .limit) (o .«has_payload») (b .payload) (admitted .payload-in) in
+      let e : toℕ (at .0) ≡ max (toℕ (p .0)) (O.payloadLength (payloadOf o b)) = offset-nat in
+      record {
+        guarded = record {
+          limit-some = admitted .limit-some;
+          limit-top = admitted .limit-top;
+          capacity-low = omega arith;
+          capacity-top = omega (arith, admitted .asked-top, admitted .limit-top);
+          store-lent = stores .fits .store-lent;
+          table-lent = stores .fits .table-lent;
+          head-in = stores .fits .head-in;
+          stored-in = omega (arith, stores .fits .started, capacity-is);
+          held-in = admitted .limit-some;
+          first-in = stores .fits .first-in;
+          chunks-in = stores .fits .chunks-in;
+          waiting-in = omega arith;
+          offset-in = ap (λ (z : ℤ). ltZ z (pos 0)) offset ∙ le-ltb (max (toℕ (p .0)) (O.payloadLength (payloadOf o b))) 0 (omega arith);
+          offset-top = at-top;
+          started = omega (arith, stores .fits .started, e);
+        };
+        slots-in = slots-top;
+        sound = stores .sound;
+        waiting-is = ap length none-waits ∙ sym count-is;
+        spec-fits = connects .fits;
+        followed = λ f. omega (arith, connects .redirects-is);
+        cursor = tt;
+      }
+
+  queue-is : queueOf (lentOf left) buffer (toℕ (at .0)) store′ table′ ≡ O.openChunks (payloadOf o b) (p .0)
+  queue-is =
+      ap (λ (n : ℕ). queueOf (lentOf left) buffer n store′ table′) offset-nat
+      ∙ queue-at (o .limit) (lentOf left) buffer (payloadOf o b) (p .0) store′ table′ (stores .fits) (stores .sound) (stores .queue-is)
+
+  abbrev sessionAt : ℤ → Option ℕ → R.Connector → List R.ReplayChunk → ℕ → List R.PendingRequest → ℤ → R.Session
+  sessionAt at run c chunks capacity waiters p = record {
+    limit = o .limit;
+    slots = length table;
+    phase = R.live;
+    sent = R.nothing;
+    made = 0;
+    writeOffset = at;
+    runningCrc32c = run;
+    held = [];
+    worker = record {
+      connector = c;
+      replayBuffer = record { queue = chunks; capacity = capacity };
+      pendingRequests = waiters;
+      persistedSize = p;
+      finalized = false;
+      selfFlushOutstanding = false;
+    };
+  }
+
+  abbrev connectorAt : S.AppendObjectSpec → ℕ → ℕ → ℤ → R.Connector
+  connectorAt spec attempts redirects last = record { spec = spec; attemptCount = attempts; redirectsFollowed = redirects; lastPersistedSize = last }
+
+  connector-is : connectorOf c ≡ connectorAt (S.handleResponse (responseOf (o .response) (b .responseHandle)) (dialled o b)) 0 0 (o .«last_persisted_size» .0)
+  unfolding connectorOf
+  connector-is =
+      ap₂ (λ (x : S.AppendObjectSpec) (l : Offset). connectorAt x (c .«attempt_count») (c .«redirects_followed») (l .0)) (connects .spec-is (b .payload)) (connects .size-is)
+      ∙ ap₂ (λ (i j : ℕ). connectorAt (S.handleResponse (responseOf (o .response) (b .responseHandle)) (dialled o b)) i j (o .«last_persisted_size» .0))
+      (connects .attempts-is) (connects .redirects-is)
+
+  left-view : view left store′ table′ ≡ O.openSession (openingOf o b (length store) (length table))
+  unfolding view workerOf part openingOf O.openSession
+  left-view =
+      let P : ℤ = p .0 in
+      let pl : Option Bytes = payloadOf o b in
+      ap₂ (λ (x : ℤ) (y : Option ℕ). sessionAt x y (connectorOf c) (queueOf (lentOf left) buffer (toℕ (at .0)) store′ table′) (buffer .capacity) (waitersOf q) P) at-is run-is
+      ∙ ap₂ (λ (x : R.Connector) (y : List R.ReplayChunk). sessionAt (O.larger P (pos (O.payloadLength pl))) (O.openSum pl P (checksumOf (o .checksum))) x y (buffer .capacity) (waitersOf q) P)
+      connector-is queue-is
+      ∙ ap₂ (λ (x : ℕ) (y : List R.PendingRequest). sessionAt (O.larger P (pos (O.payloadLength pl))) (O.openSum pl P (checksumOf (o .checksum)))
+      (connectorAt (S.handleResponse (responseOf (o .response) (b .responseHandle)) (dialled o b)) 0 0 (o .«last_persisted_size» .0)) (O.openChunks pl P) x y P)
+      capacity-is none-waits
+      ∙ ap (λ (x : ℤ). sessionAt (O.larger x (pos (O.payloadLength pl))) (O.openSum pl x (checksumOf (o .checksum)))
+      (connectorAt (S.handleResponse (responseOf (o .response) (b .responseHandle)) (dialled o b)) 0 0 (o .«last_persisted_size» .0)) (O.openChunks pl x)
+      (max (Option·getD (askedOf (o .capacity)) 33554432) (2 * o .limit + 1)) [] x)
+      size-is
+
+  left-starts : Starts o b store table left store′ table′
+  left-starts = record { view-is = left-view; valid = left-valid; store-beyond = stores .store-beyond; table-beyond = stores .table-beyond }
+
+pub starts : (o : Opening) (b : Beside) (store : Bytes) (table : List ℕ) → Admitted o b (length store) (length table) → length table < 2 ^ 63
+    → (asked capacity n : ℕ) (p at : Offset) (run : Checksum) (c : Connector) (buffer : ReplayBuffer) (s : Session) (store′ : Bytes) (table′ : List ℕ)
+    → asked ≡ Option·getD (askedOf (o .capacity)) 33554432 → capacity ≡ max asked (2 * o .limit + 1)
+    → p .0 ≡ sizeOf o
+    → Connects o (b .bucket) (b .object) (b .writeHandle) (b .routingToken) (b .responseHandle) c
+    → Stores (o .limit) capacity (payloadOf o b) (p .0) store table buffer store′ table′
+    → n ≡ O.payloadLength (payloadOf o b) → (at .0 ≡ O.larger (p .0) (pos n)) × (toℕ (at .0) < 2 ^ 63)
+    → checksumOf run ≡ O.openSum (payloadOf o b) (p .0) (checksumOf (o .checksum))
+    → Fresh (o .limit) (length table) phase.Live at run c buffer p s
+    → Starts o b store table s store′ table′
+starts o b store table admitted slots-top asked capacity n p at run c buffer s store′ table′ ea ec ep connects stores en ew er fresh =
+    subst (λ (x : Session). Starts o b store table x store′ table′) (sym (fresh .record-is))
+    (left-starts o b store table admitted slots-top p at run c buffer (s .worker .«pending_requests») store′ table′
+    (stores .capacity-is ∙ ec ∙ ap (λ (k : ℕ). max k (2 * o .limit + 1)) ea) ep connects
+    (subst (λ (k : ℕ). Stores (o .limit) k (payloadOf o b) (p .0) store table buffer store′ table′) (sym (stores .capacity-is)) stores)
+    (ew .0 ∙ ap (λ (k : ℕ). O.larger (p .0) (pos k)) en) (ew .1) er (fresh .none-waits) (fresh .count-is))

@@ -1,0 +1,4 @@
+pub mod Following
+pub mod Judging
+pub mod Breaking
+pub mod Unsending

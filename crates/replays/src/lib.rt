@@ -1,0 +1,3 @@
+// Ported from google-cloud-storage 1.21.0, src/storage/bidi_write/worker.rs (Apache-2.0); changed: no tasks, channels or heap.
+// Next request: a replay.
+pub mod replay;

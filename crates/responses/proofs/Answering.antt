@@ -1,0 +1,146 @@
+-- The last step of a response or handshake: a bare flush, nothing, a replay, or the end.
+-- Assumes nothing.
+use mathlib.Core.Path.{_≡_, refl, sym, ap, _∙_}
+use mathlib.Core.Bool.{Bool, true, false, not, _&&_}
+use mathlib.Core.Option.{some}
+use mathlib.Core.List.{List, [], _∷_}
+use Prim.Native.Nat.{ℕ, _*_, _-_, _<_, _≤_}
+use native.Mathlib.Omega.{arith}
+use borrow.Author.Tests.{leb-true}
+use lib.Dec.{leb, eqb}
+use lib.IntN.{pos}
+use lib.ListN.{length}
+use Rattle.rules.specs.Message.{Bytes}
+use Rattle.rules.specs.Session as R
+use Rattle.rules.specs.Respond.{bareRequest, lastStep, toReplay}
+use Rattle.rules.specs.Upload.{flushRequest}
+use Rattle.bidi_write.specs.View.{requestOf}
+use Rattle.bidi_write.specs.declared.Cause.{Cause}
+use Rattle.bidi_write.specs.declared.Request.{Request}
+use Rattle.replay_buffer.specs.View.{total, wordsOf}
+use Rattle.replay_buffer.proofs.Laws.{length-words, end-offset}
+use Rattle.worker.specs.View.{workerOf}
+use Rattle.worker.specs.declared.Worker.{Worker}
+use Rattle.transport.specs.View.{phaseOf, lentOf, endOf, view}
+use Rattle.transport.specs.Valid.{Valid}
+use Rattle.transport.specs.Parts.{setPhase, setWorker, EndsAs}
+use Rattle.transport.specs.Promise.{sentData}
+use Rattle.responses.specs.Respond.{Flushes, Answers}
+use Rattle.transport.specs.declared.Answer.{Answer}
+use Rattle.transport.specs.declared.Answer.the-variants as answer
+use Rattle.transport.specs.declared.MaybeRequest.{MaybeRequest}
+use Rattle.transport.specs.declared.MaybeRequest.the-variants as maybe
+use Rattle.transport.specs.declared.Outcome.{Outcome}
+use Rattle.transport.specs.declared.Phase.the-variants as phase
+use Rattle.transport.specs.declared.Refusal.{Refusal}
+use Rattle.transport.specs.declared.Sent.the-variants as sent
+use Rattle.transport.specs.declared.Session.{Session}
+use Rattle.responses.specs.declared.respond.Way.the-variants as way
+use Rattle.transport.proofs.Numbers.{fits, offset-is, stored-is, watermark-is}
+use Rattle.transport.proofs.Views.{no-cursor, live-no-replay}
+use Rattle.transport.proofs.Bare.{bare-is}
+use Rattle.responses.proofs.Taking.{chosen, passed-over}
+use Rattle.transport.proofs.Views.{valid-phase}
+
+-- ---- whether a bare flush is sent
+
+pub flushes-not : (s : Session) (n : ℕ) → n ≡ R.phaseNumber (phaseOf (s .phase)) → eqb n 1 ≡ false → Flushes s false
+flushes-not s n is e = record { flushes = λ store table v. sym (ap (λ (x : Bool). x && R.watermark (view s store table)) (ap (λ (x : ℕ). eqb x 1) (sym is) ∙ e)) }
+
+pub flushes-at : (s : Session) (n : ℕ) → n ≡ R.phaseNumber (phaseOf (s .phase)) → eqb n 1 ≡ true → (low : Bool)
+    → low ≡ (eqb (s .worker .«pending_requests» .count) 0 && not (s .worker .«self_flush_outstanding»)
+    && leb (s .worker .«replay_buffer» .capacity - 2 * s .limit) (s .worker .«replay_buffer» .«unpersisted_bytes»))
+    → Flushes s low
+flushes-at s n is e low l = record {
+  flushes = λ store table v.
+      l ∙ watermark-is s store table v
+      ∙ sym (ap (λ (x : Bool). x && R.watermark (view s store table)) (ap (λ (x : ℕ). eqb x 1) (sym is) ∙ e));
+}
+
+-- ---- where it is sent: a chunk is stored, and the last one ends at the write offset
+
+left-true : (a b : Bool) → (a && b) ≡ true → a ≡ true
+left-true true b e = refl
+left-true false b e = e
+
+right-true : (a b : Bool) → (a && b) ≡ true → b ≡ true
+right-true true b e = e
+right-true false b e = let z : _≡_ {A = ℕ} 0 1 = cc in absurd (omega arith)
+
+-- ---- the answers
+
+completes-accepts : (k : ℕ) (m : MaybeRequest) (x : Refusal) → answer.Completes k m ≡ answer.Refused x → ⊥
+completes-accepts k m x e = let z : _≡_ {A = ℕ} 0 1 = cc in absurd (omega arith)
+
+ends-accepts : (c : Cause) (k f : ℕ) (x : Refusal) → answer.Ends c k f ≡ answer.Refused x → ⊥
+ends-accepts c k f x e = let z : _≡_ {A = ℕ} 0 1 = cc in absurd (omega arith)
+
+-- the worker with an own flush outstanding
+abbrev pub marked : Worker → Worker
+marked w = record {
+  connector = w .connector;
+  «replay_buffer» = w .«replay_buffer»;
+  «pending_requests» = w .«pending_requests»;
+  «persisted_size» = w .«persisted_size»;
+  finalized = w .finalized;
+  «self_flush_outstanding» = true;
+}
+
+module _ (s : Session) (k : ℕ) where
+  module _ (asked : Flushes s true) (q : Request) (is : (out : Bytes) → requestOf q out ≡ flushRequest (s .«write_offset» .0)) where
+    flushed : (store : Bytes) (table : List ℕ) → Valid s store table
+        → R.answers (R.completes k (some (requestOf q []))) (view (setPhase (s .phase) sent.BareFlush (setWorker (marked (s .worker)) s)) store table)
+        ≡ lastStep k (view s store table)
+    unfolding lastStep view workerOf
+    flushed store table v =
+        ap (λ (x : _). R.answers (R.completes k (some x)) (R.setPhase (phaseOf (s .phase)) R.bareFlush (R.setWorker (R.setMark true (view s store table .worker)) (view s store table))))
+        (is [] ∙ sym (bare-is s store table v (right-true (R.isLive (phaseOf (s .phase))) (R.watermark (view s store table)) (sym (asked .flushes store table v)))))
+        ∙ sym (chosen _ _ (sym (asked .flushes store table v)))
+
+    pub answers-flush : Answers lastStep (way.On k) s (record {
+      session = setPhase (s .phase) sent.BareFlush (setWorker (marked (s .worker)) s);
+      answer = answer.Completes k (maybe.Present q);
+    })
+    answers-flush = record {
+      accepts = completes-accepts k (maybe.Present q);
+      no-data = rw (is []);
+      answers = flushed;
+      stays = λ store table e v. record {
+        guarded = v .guarded;
+        slots-in = v .slots-in;
+        sound = v .sound;
+        waiting-is = v .waiting-is;
+        spec-fits = v .spec-fits;
+        followed = v .followed;
+        cursor = no-cursor (s .phase) _ _ (live-no-replay (s .phase) (left-true (R.isLive (phaseOf (s .phase))) (R.watermark (view s store table)) (sym (asked .flushes store table v))));
+      };
+    }
+
+  pub answers-nothing : Flushes s false → Answers lastStep (way.On k) s (record { session = setPhase (s .phase) sent.Nothing s; answer = answer.Completes k maybe.Absent })
+  unfolding lastStep view
+  answers-nothing asked = record {
+    accepts = completes-accepts k maybe.Absent;
+    no-data = refl;
+    answers = λ store table v. sym (passed-over _ _ (sym (asked .flushes store table v)));
+    stays = λ store table e v. valid-phase (s .phase) sent.Nothing s store table v (v .followed) (v .cursor);
+  }
+
+  pub answers-replay : Answers toReplay (way.On k) s (record {
+    session = setPhase (phase.Replay (record { next = 0; bytes = 0 })) sent.Nothing s;
+    answer = answer.Completes k maybe.Absent;
+  })
+  unfolding toReplay view
+  answers-replay = record {
+    accepts = completes-accepts k maybe.Absent;
+    no-data = refl;
+    answers = λ store table v. refl;
+    stays = λ store table e v. valid-phase _ sent.Nothing s store table v (λ _. v .followed e) (refl, omega arith);
+  }
+
+  pub answers-end : (last : ℕ → R.Session → R.Result) (c : Cause) (r : Outcome) → EndsAs c k s r → Answers last (way.Ends c k) s r
+  answers-end last c r ends = record {
+    accepts = λ x e. ends-accepts c k _ x (sym (ends .answer-is) ∙ e);
+    no-data = ap (λ (a : Answer). sentData a []) (ends .answer-is);
+    answers = λ store table v. ends .ends store table [] v;
+    stays = λ store table e v. ends .stays store table v;
+  }

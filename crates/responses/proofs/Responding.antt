@@ -1,0 +1,108 @@
+-- Response and handshake: what the code tests and leaves is what the rules say.
+-- Assumes nothing.
+use mathlib.Core.Path.{_≡_, refl, sym, ap, _∙_}
+use mathlib.Core.Bool.{Bool, false, not}
+use mathlib.Core.List.{List, []}
+use Prim.Native.Nat.{ℕ}
+use lib.ListN.{length}
+use Rattle.rules.specs.Message as M
+use Rattle.rules.specs.Session as R
+use Rattle.rules.specs.Respond.{updated, progress, takes, lastStep, toReplay, responds, shakes}
+use Rattle.rules.specs.Step.{step}
+use Rattle.transport.specs.View.{phaseOf, numberOf, view}
+use Rattle.transport.specs.Valid.{GuardedAt}
+use Rattle.transport.specs.Promise.{Promise}
+use Rattle.transport.specs.Check.{checked}
+use Rattle.responses.specs.Respond.{Admits, receives, isOpen, Prepares, Takes, Answers}
+use Rattle.transport.specs.declared.Answer.the-variants as answer
+use Rattle.transport.specs.declared.Check.{Check}
+use Rattle.transport.specs.declared.Check.the-variants as check
+use Rattle.transport.specs.declared.Outcome.{Outcome}
+use Rattle.transport.specs.declared.Phase.{Phase}
+use Rattle.transport.specs.declared.Refusal.{Refusal}
+use Rattle.transport.specs.declared.Session.{Session}
+use Rattle.responses.specs.declared.respond.Taken.{Taken}
+use Rattle.responses.proofs.Admitting.{passes}
+use Rattle.transport.proofs.Refused.{refused, passed, refusal}
+
+-- the session with the mark cleared and the connector changed
+abbrev noted : (R.Connector → R.Connector) → R.Session → R.Session
+noted f v = R.setWorker (R.setConnector (f (v .worker .connector)) (R.setMark false (v .worker))) v
+
+-- ---- the rules of both calls: refusals, and then what the status comes to
+
+pub record Rules (c : R.Call) (right : R.Phase → Bool) (m : M.Response) (f : R.Connector → R.Connector) (last : ℕ → R.Session → R.Result) : Type 0 where
+  pub refuses : (v : R.Session) (x : Refusal) → checked (receives right (v .phase) m) ≡ check.Refuse x → step c v ≡ R.answers (R.refused (numberOf x)) v
+  pub accepts : (v : R.Session) → checked (receives right (v .phase) m) ≡ check.Go
+      → step c v ≡ takes (M.sizeOf (m .writeStatus)) (M.isFinalized (m .writeStatus)) (noted f v) last
+  pub no-replay : (p : R.Phase) → not (right p) ≡ false → R.isReplay p ≡ false
+
+pub response-rules : (m : M.Response) → Rules (R.response m) isOpen m (updated m) lastStep
+unfolding step responds R.unless
+response-rules m = record { refuses = λ v x e. refused v _ x _ e; accepts = λ v e. passed v _ _ e; no-replay = phases }
+  where
+    phases : (p : R.Phase) → not (isOpen p) ≡ false → R.isReplay p ≡ false
+    phases R.live e = refl
+    phases R.closing e = refl
+    phases R.connecting e = refl
+    phases (R.verdict r) e = refl
+    phases (R.replay i) e = e
+    phases (R.ended c) e = refl
+
+pub handshake-rules : (m : M.Response)
+    → Rules (R.handshake m) R.isConnecting m (λ (x : R.Connector). progress (M.sizeOf (m .writeStatus)) (updated m x)) toReplay
+unfolding step shakes R.unless
+handshake-rules m = record { refuses = λ v x e. refused v _ x _ e; accepts = λ v e. passed v _ _ e; no-replay = phases }
+  where
+    phases : (p : R.Phase) → not (R.isConnecting p) ≡ false → R.isReplay p ≡ false
+    phases R.live e = refl
+    phases R.closing e = refl
+    phases R.connecting e = refl
+    phases (R.verdict r) e = refl
+    phases (R.replay i) e = e
+    phases (R.ended c) e = refl
+
+-- ---- the promise
+
+module _ {c : R.Call} {right : R.Phase → Bool} {m : M.Response} {f : R.Connector → R.Connector} {last : ℕ → R.Session → R.Result} (rules : Rules c right m f last)
+    (s : Session) (store : M.Bytes) (table : List ℕ) (way : Check) (admits : Admits s (length store) (length table) (receives right (phaseOf (s .phase)) m) way) where
+  pub refuses-as : (x : Refusal) → way ≡ check.Refuse x → Promise c s store table [] (record { session = s; answer = answer.Refused x }) store table []
+  unfolding view
+  refuses-as x e = refusal c s store table [] x (λ v. rules .refuses (view s store table) x (admits .refuses x e (v .guarded)))
+
+  module _ (go : way ≡ check.Go) where
+    -- what the callees ask
+    pub short : M.over M.maxHandle (m .writeHandle) ≡ false
+    short = passes _ _ _ (admits .goes go) .short
+
+    pub fits-still : (t : Session) → Prepares f s t → GuardedAt t (length store) (length table)
+    fits-still t p = p .guarded (length store) (length table) (admits .fits go)
+
+    module _ (t : Session) (p : Prepares f s t) (taken : Taken) (table′ : List ℕ)
+        (ts : Takes (M.sizeOf (m .writeStatus)) (M.isFinalized (m .writeStatus)) t store table taken table′)
+        (r : Outcome) (an : Answers last (taken .way) (taken .session) r) where
+      before : R.isReplay (phaseOf (s .phase)) ≡ false
+      before = rules .no-replay (phaseOf (s .phase)) (passes _ _ _ (admits .goes go) .right-phase)
+
+      no-replay : R.isReplay (phaseOf (t .phase)) ≡ false
+      no-replay = rw (p .phase-is) before
+
+      not-ended : R.isEnded (phaseOf (taken .session .phase)) ≡ false
+      not-ended = rw (ts .phase-is, p .phase-is) (passes _ _ _ (admits .goes go) .not-ended)
+
+      rule : step c (view s store table) ≡ takes (M.sizeOf (m .writeStatus)) (M.isFinalized (m .writeStatus)) (view t store table) last
+      unfolding view
+      rule =
+          rules .accepts (view s store table) (admits .goes go)
+          ∙ ap (λ (x : R.Session). takes (M.sizeOf (m .writeStatus)) (M.isFinalized (m .writeStatus)) x last) (sym (p .view-is store table))
+
+      pub accepts-as : Promise c s store table [] r store table′ []
+      accepts-as = record {
+        refuses = λ x e. absurd (an .accepts x e);
+        store-beyond = refl;
+        table-beyond = rw (p .slots-is) at (ts .beyond);
+        out-beyond = rw (an .no-data);
+        steps = λ v.
+            an .answers store table′ (ts .stays no-replay (p .stays store table before v)) ∙ sym (ts .takes last no-replay (p .stays store table before v)) ∙ sym rule;
+        stays = λ v. an .stays store table′ not-ended (ts .stays no-replay (p .stays store table before v));
+      }

@@ -1,0 +1,4 @@
+pub mod Uploads
+pub mod Cutting
+pub mod Appending
+pub mod Asking

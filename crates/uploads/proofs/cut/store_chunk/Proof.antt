@@ -1,0 +1,13 @@
+-- `uploads::cut::store_chunk` meets its contract.
+use borrow.Author.Needs.{needs}
+use Rattle.uploads.proofs.cut.store_chunk.Statement.{statement}
+use Rattle.uploads.proofs.cut.store_chunk.Tie as tie
+
+marks-requires : tie.Need-marks-requires
+marks-requires c κs = search needs
+
+returns : tie.Need-returns
+returns c = rw (c .marks .ensures)
+
+pub store-chunk-spec : {M : Type 1} → statement M
+store-chunk-spec = tie.close (tie.spec marks-requires returns)

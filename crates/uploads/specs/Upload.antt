@@ -1,0 +1,193 @@
+-- Append, flush and finalise: what their private functions promise each other. What a caller is promised is `Promise` alone.
+use mathlib.Core.Path.{_≡_}
+use mathlib.Core.Bool.{Bool, true, false, not, cond, _&&_, _||_}
+use mathlib.Core.Option.{some}
+use mathlib.Core.List.{List, [], _∷_, _++_}
+use Prim.Native.Nat.{ℕ, _+_, _*_, _-_, _<_, _≤_, _^_, min}
+use lib.ListN.{length, take, drop}
+use lib.Dec.{leb, ltb, eqb}
+use lib.IntN.{ℤ, pos}
+use Rattle.crc32c.specs.Reg.{crcOf, joined}
+use Rattle.rules.specs.Message.{Bytes}
+use Rattle.rules.specs.Session as R
+use Rattle.rules.specs.Upload as U
+use Rattle.rules.specs.Notes.{dataIn}
+use Rattle.ring.specs.Ring.{part}
+use Rattle.bidi_write.specs.Numbers.{toℕ}
+use Rattle.bidi_write.specs.View.{requestOf}
+use Rattle.bidi_write.specs.declared.Checksum.{Checksum}
+use Rattle.bidi_write.specs.declared.Checksum.the-variants as checksum
+use Rattle.replay_buffer.specs.Push.{Pushes}
+use Rattle.replay_buffer.specs.declared.ReplayBuffer.{ReplayBuffer}
+use Rattle.worker.specs.View.{kindOf, pendingOf, waitersOf}
+use Rattle.worker.specs.declared.PendingKind.{PendingKind}
+use Rattle.worker.specs.declared.PendingKind.the-variants as kind
+use Rattle.worker.specs.declared.PendingRequest.{PendingRequest}
+use Rattle.worker.specs.declared.PendingRequests.{PendingRequests}
+use Rattle.worker.specs.declared.Worker.{Worker}
+use Rattle.transport.specs.View.{phaseOf, lentOf, endOf, view}
+use Rattle.transport.specs.Valid.{GuardedAt, Valid}
+use Rattle.transport.specs.Check.{checked, rows}
+use Rattle.transport.specs.declared.Check.{Check}
+use Rattle.transport.specs.declared.Check.the-variants as check
+use Rattle.transport.specs.declared.Session.{Session}
+use Rattle.transport.specs.declared.Sent.the-variants as sent
+use Rattle.uploads.specs.declared.cut.Sending.{Sending}
+use Rattle.uploads.specs.declared.cut.Pushed.{Pushed}
+
+abbrev pub callOf : PendingKind → ℕ → R.Call
+callOf kind.Flush out = R.flush out
+callOf kind.Finalize out = R.finalise out
+
+-- ---- the tests
+
+-- the refusals of a call that sends or not, and cuts a chunk or not: the last four tests are given
+abbrev pub testRows : (phase : ℕ) (finalized sends cuts short full room past : Bool) → Check
+testRows phase finalized sends cuts short full room past =
+    checked (rows (eqb phase 6) (eqb phase 5 || finalized) (sends && not (eqb phase 1)) false false (cuts && short) (sends && full) room (cuts && past))
+
+-- by the record's numbers, for a chunk of n bytes
+abbrev pub tested : (phase : ℕ) (finalized : Bool) (limit : ℕ) (b : ReplayBuffer) (offset : ℤ) (sends cuts : Bool) (n out : ℕ) (room : Bool) → Check
+tested phase finalized limit b offset sends cuts n out room =
+    testRows phase finalized sends cuts (ltb out limit) (leb (b .capacity) (b .«unpersisted_bytes»)) room (ltb (2 ^ 63 - 1) (toℕ offset + n))
+
+-- ---- a cut
+
+-- the n bytes behind the stored ones
+abbrev pub chunkAt : Session → ℕ → Bytes → Bytes
+chunkAt s n store = part (lentOf s .size) (s .worker .«replay_buffer» .head) (s .worker .«replay_buffer» .«unpersisted_bytes») n store
+
+-- what the tests leave of a call that cuts a chunk of n bytes
+pub record Cuttable (s : Session) (n out : ℕ) : Type 0 where
+  pub live : R.isLive (phaseOf (s .phase)) ≡ true
+  pub small : n ≤ s .limit
+  pub out-in : s .limit ≤ out
+  pub below : s .worker .«replay_buffer» .«unpersisted_bytes» < s .worker .«replay_buffer» .capacity
+  pub free : s .worker .«replay_buffer» .chunks < s .slots
+  pub end-in : endOf s + n < 2 ^ 63
+
+pub record CutRoom (s : Session) (n store table out : ℕ) : Type 0 where
+  pub guarded : GuardedAt s store table
+  pub cuttable : Cuttable s n out
+
+-- the n bytes are a chunk: summed, pushed and copied out
+pub record CutBytes (b : ReplayBuffer) (size slots n : ℕ) (store : Bytes) (table : List ℕ) (out : Bytes) (r : Pushed) (table′ : List ℕ) (out′ : Bytes) : Type 0 where
+  pub sum-is : r .crc32c ≡ crcOf (part size (b .head) (b .«unpersisted_bytes») n store)
+  pub pushes : Pushes slots b table n (r .crc32c) (r .«replay_buffer») table′
+  pub out-is : out′ ≡ part size (b .head) (b .«unpersisted_bytes») n store ++ drop n out
+
+abbrev pub joinedTo : Checksum → ℕ → ℕ → Checksum
+joinedTo checksum.Unknown sum n = checksum.Unknown
+joinedTo (checksum.Known running) sum n = checksum.Known (joined running sum n)
+
+abbrev pub storing : ReplayBuffer → Bool → Worker → Worker
+storing b flush w = record {
+  connector = w .connector;
+  «replay_buffer» = b;
+  «pending_requests» = w .«pending_requests»;
+  «persisted_size» = w .«persisted_size»;
+  finalized = w .finalized;
+  «self_flush_outstanding» = w .«self_flush_outstanding» || flush;
+}
+
+-- the watermark, with the buffer b
+abbrev pub flushesWith : ReplayBuffer → Session → Bool
+flushesWith b s =
+    eqb (s .worker .«pending_requests» .count) 0 && not (s .worker .«self_flush_outstanding») && leb (b .capacity - 2 * s .limit) (b .«unpersisted_bytes»)
+
+abbrev pub cutSession : ReplayBuffer → ℕ → ℕ → Session → Session
+cutSession b sum n s = record {
+  limit = s .limit;
+  slots = s .slots;
+  phase = s .phase;
+  sent = sent.Request;
+  made = s .made;
+  «write_offset» = record { 0 = pos (endOf s + n) };
+  «running_crc32c» = joinedTo (s .«running_crc32c») sum n;
+  held = 0;
+  worker = storing b (flushesWith b s) (s .worker);
+}
+
+pub record CutSession (s : Session) (b : ReplayBuffer) (sum n : ℕ) (r : Sending) : Type 0 where
+  pub session-is : r .session ≡ cutSession b sum n s
+  pub request-is : (out : Bytes)
+      → requestOf (r .request) out ≡ U.chunkRequest (record { writeOffset = s .«write_offset» .0; bytes = take n out; crc32c = sum }) (flushesWith b s)
+
+-- the n bytes behind the stored ones are cut as the rules cut them
+pub record Cuts (s : Session) (n : ℕ) (store : Bytes) (table : List ℕ) (out : Bytes) (r : Sending) (table′ : List ℕ) (out′ : Bytes) : Type 0 where
+  -- for any memory
+  pub table-beyond : drop (s .slots) table′ ≡ drop (s .slots) table
+  pub out-beyond : out′ ≡ dataIn (some (requestOf (r .request) out′)) ++ drop (length (dataIn (some (requestOf (r .request) out′)))) out
+  -- for what calls leave
+  pub request-is : Valid s store table → requestOf (r .request) out′ ≡ U.cutRequest (chunkAt s n store) (view s store table)
+  pub session-is : Valid s store table → view (r .session) store table′ ≡ U.cuts (chunkAt s n store) (view s store table)
+  pub stays : Valid s store table → Valid (r .session) store table′
+
+-- ---- append
+
+abbrev pub appendTests : Session → (n out : ℕ) → Bool → Check
+appendTests s n out cuts =
+    tested (R.phaseNumber (phaseOf (s .phase))) (s .worker .finalized) (s .limit) (s .worker .«replay_buffer») (s .«write_offset» .0) cuts cuts (s .held + n) out
+    (cuts && leb (s .slots) (s .worker .«replay_buffer» .chunks))
+
+-- an append of the first n bytes of d, which cuts a chunk or not, goes on
+pub record Taking (s : Session) (d : Bytes) (out n : ℕ) (cuts : Bool) : Type 0 where
+  pub some-given : 0 < length d
+  pub taken : n ≡ min (length d) (s .limit - s .held)
+  pub cuts-is : cuts ≡ leb (s .limit) (s .held + n)
+  pub goes : appendTests s n out cuts ≡ check.Go
+
+-- so many bytes are held, and nothing is sent
+abbrev pub holding : ℕ → Session → Session
+holding n s = record {
+  limit = s .limit;
+  slots = s .slots;
+  phase = s .phase;
+  sent = sent.Nothing;
+  made = s .made;
+  «write_offset» = s .«write_offset»;
+  «running_crc32c» = s .«running_crc32c»;
+  held = n;
+  worker = s .worker;
+}
+
+-- ---- flush and finalise
+
+abbrev pub askTests : Session → (out : ℕ) → Bool → Check
+askTests s out cuts =
+    tested (R.phaseNumber (phaseOf (s .phase))) (s .worker .finalized) (s .limit) (s .worker .«replay_buffer») (s .«write_offset» .0) true cuts (s .held) out
+    (cond cuts (leb (s .slots) (s .worker .«replay_buffer» .chunks)) (leb 16 (s .worker .«pending_requests» .count) || leb (2 ^ 64 - 1) (s .made)))
+
+pub record Asking (s : Session) (out : ℕ) (cuts : Bool) : Type 0 where
+  pub cuts-is : cuts ≡ not (eqb (s .held) 0)
+  pub goes : askTests s out cuts ≡ check.Go
+
+abbrev pub waiterFor : PendingKind → Session → PendingRequest
+waiterFor k s = record { kind = k; «write_offset» = s .«write_offset»; «object_checksums» = s .«running_crc32c» }
+
+abbrev pub awaiting : PendingKind → PendingRequests → Session → Session
+awaiting k q s = record {
+  limit = s .limit;
+  slots = s .slots;
+  phase = s .phase;
+  sent = sent.Request;
+  made = s .made + 1;
+  «write_offset» = s .«write_offset»;
+  «running_crc32c» = s .«running_crc32c»;
+  held = s .held;
+  worker = record {
+    connector = s .worker .connector;
+    «replay_buffer» = s .worker .«replay_buffer»;
+    «pending_requests» = q;
+    «persisted_size» = s .worker .«persisted_size»;
+    finalized = s .worker .finalized || U.isFinalizing (kindOf k);
+    «self_flush_outstanding» = s .worker .«self_flush_outstanding»;
+  };
+}
+
+-- one waiter more, and its request
+pub record Awaits (k : PendingKind) (s : Session) (r : Sending) : Type 0 where
+  pub session-is : r .session ≡ awaiting k (r .session .worker .«pending_requests») s
+  pub waiters-are : waitersOf (r .session .worker .«pending_requests») ≡ waitersOf (s .worker .«pending_requests») ++ (pendingOf (waiterFor k s) ∷ [])
+  pub count-is : r .session .worker .«pending_requests» .count ≡ s .worker .«pending_requests» .count + 1
+  pub request-is : (out : Bytes) → requestOf (r .request) out ≡ pendingOf (waiterFor k s) .request

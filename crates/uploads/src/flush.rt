@@ -1,0 +1,191 @@
+// Ported from google-cloud-storage 1.21.0, src/storage/bidi_write/transport.rs and worker.rs (Apache-2.0); changed: no tasks, channels or heap.
+// Flush and finalise: "with held bytes cut them as one chunk and make no waiter; the call is repeated. With none held they send their request and make a waiter."
+ghost use mathlib.Core.Path.{_≡_};
+ghost use mathlib.Core.Bool.{cond, _||_};
+ghost use Prim.Native.Nat.{_<_, _-_, _^_};
+ghost use lib.Dec.{leb};
+ghost use lib.ListN.{length};
+ghost use Rattle.rules.specs.Session as R;
+ghost use Rattle.transport.specs.Valid.{GuardedAt};
+ghost use Rattle.transport.specs.Promise.{Promise};
+ghost use Rattle.rules.specs.Upload.{isFinalizing};
+ghost use Rattle.worker.specs.View.{kindOf};
+ghost use Rattle.uploads.specs.Upload.{callOf, Asking, Awaits};
+use crate::cut::Sending;
+use crate::cut::cut;
+use crate::cut::tests;
+use transport::Answer;
+use transport::Check;
+use transport::Outcome;
+use transport::Refusal;
+use transport::Sent;
+use transport::Session;
+use transport::guard::guard;
+use transport::phases::phase_number;
+use worker::PendingKind;
+use worker::PendingRequest;
+
+pub fn flush(s: Session, store: &[u8], table: &mut [u64], out: &mut [u8]) -> Outcome
+    ensures { λ r. ⌜ Promise (R.flush (length (now (out .entry)))) s (now (store .entry)) (now (table .entry)) (now (out .entry)) r (now (store .entry)) (now (table .exit)) (now (out .exit)) ⌝ }
+{
+    ask(PendingKind::Flush, s, store, table, out)
+}
+
+pub fn finalise(s: Session, store: &[u8], table: &mut [u64], out: &mut [u8]) -> Outcome
+    ensures { λ r. ⌜ Promise (R.finalise (length (now (out .entry)))) s (now (store .entry)) (now (table .entry)) (now (out .entry)) r (now (store .entry)) (now (table .exit)) (now (out .exit)) ⌝ }
+{
+    ask(PendingKind::Finalize, s, store, table, out)
+}
+
+fn ask(kind: PendingKind, s: Session, store: &[u8], table: &mut [u64], out: &mut [u8]) -> Outcome
+    ensures { λ r. ⌜ Promise (callOf kind (length (now (out .entry)))) s (now (store .entry)) (now (table .entry)) (now (out .entry)) r (now (store .entry)) (now (table .exit)) (now (out .exit)) ⌝ }
+{
+    let write_offset = s.write_offset;
+    let b = s.worker.replay_buffer;
+    let q = s.worker.pending_requests;
+    if !guard(
+        s.limit,
+        s.slots,
+        s.held,
+        write_offset,
+        b,
+        q.count,
+        store.len(),
+        table.len(),
+    ) {
+        return Outcome {
+            session: s,
+            answer: Answer::Refused(Refusal::ShortMemory),
+        };
+    }
+    ask_guarded(kind, s, store, table, out)
+}
+
+fn ask_guarded(
+    kind: PendingKind,
+    s: Session,
+    store: &[u8],
+    table: &mut [u64],
+    out: &mut [u8],
+) -> Outcome
+    requires { ⌜ GuardedAt s (length (now store)) (length (now table)) ⌝ }
+    ensures { λ r. ⌜ Promise (callOf kind (length (now (out .entry)))) s (now (store .entry)) (now (table .entry)) (now (out .entry)) r (now (store .entry)) (now (table .exit)) (now (out .exit)) ⌝ }
+{
+    let held = s.held;
+    let write_offset = s.write_offset;
+    let b = s.worker.replay_buffer;
+    let q = s.worker.pending_requests;
+    let p = s.phase;
+    let phase = phase_number(p);
+    let finalized = s.worker.finalized;
+    let cuts = held != 0;
+    let no_room = lacks_room(cuts, s.slots, b.chunks, q.count, s.made);
+    let way = tests(
+        phase,
+        finalized,
+        s.limit,
+        b,
+        write_offset,
+        true,
+        cuts,
+        held,
+        out.len(),
+        no_room,
+    );
+    match way {
+        Check::Refuse(x) => Outcome {
+            session: s,
+            answer: Answer::Refused(x),
+        },
+        Check::Go => send(kind, s, store, table, out, cuts),
+    }
+}
+
+// "No free chunk slot" for a chunk; "16 waiters wait, or 2^64 − 1 were made" for a waiter.
+fn lacks_room(cuts: bool, slots: usize, chunks: usize, waiting: usize, made: u64) -> bool
+    ensures { λ r. ⌜ r ≡ cond cuts (leb slots chunks) (leb 16 waiting || leb (2 ^ 64 - 1) made) ⌝ }
+{
+    if cuts {
+        return slots <= chunks;
+    }
+    if 16 <= waiting {
+        return true;
+    }
+    0xffff_ffff_ffff_ffff <= made
+}
+
+// The held bytes are cut, or where there are none a waiter is made.
+fn send(
+    kind: PendingKind,
+    s: Session,
+    store: &[u8],
+    table: &mut [u64],
+    out: &mut [u8],
+    cuts: bool,
+) -> Outcome
+    requires { ⌜ GuardedAt s (length (now store)) (length (now table)) ⌝ }
+    requires { ⌜ Asking s (length (now out)) cuts ⌝ }
+    ensures { λ r. ⌜ Promise (callOf kind (length (now (out .entry)))) s (now (store .entry)) (now (table .entry)) (now (out .entry)) r (now (store .entry)) (now (table .exit)) (now (out .exit)) ⌝ }
+{
+    if cuts {
+        let c = cut(s, store, table, out, s.held);
+        let session = c.session;
+        let request = c.request;
+        return Outcome {
+            session,
+            answer: Answer::Sends(request),
+        };
+    }
+    let w = wait(kind, s);
+    let session = w.session;
+    let request = w.request;
+    Outcome {
+        session,
+        answer: Answer::Waits(request, s.made + 1),
+    }
+}
+
+// The session with a waiter more, and the request that it waits for.
+fn wait(kind: PendingKind, s: Session) -> Sending
+    requires { ⌜ (s .worker .«pending_requests» .count < 16) × (s .made < 2 ^ 64 - 1) ⌝ }
+    ensures { λ r. ⌜ Awaits kind s r ⌝ }
+{
+    let phase = s.phase;
+    let write_offset = s.write_offset;
+    let running_crc32c = s.running_crc32c;
+    let w = s.worker;
+    let q = w.pending_requests;
+    let waiter = PendingRequest {
+        kind,
+        write_offset,
+        object_checksums: running_crc32c,
+    };
+    let request = waiter.request();
+    let more = q.push(waiter);
+    let worker = w.set_pending(more, finalizes(w.finalized, kind));
+    let session = Session {
+        limit: s.limit,
+        slots: s.slots,
+        phase,
+        sent: Sent::Request,
+        made: s.made + 1,
+        write_offset,
+        running_crc32c,
+        held: s.held,
+        worker,
+    };
+    Sending { session, request }
+}
+
+// Whether finalise was sent, now or before.
+fn finalizes(finalized: bool, kind: PendingKind) -> bool
+    ensures { λ r. ⌜ r ≡ (finalized || isFinalizing (kindOf kind)) ⌝ }
+{
+    if finalized {
+        return true;
+    }
+    match kind {
+        PendingKind::Flush => false,
+        PendingKind::Finalize => true,
+    }
+}

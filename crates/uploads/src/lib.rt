@@ -1,0 +1,5 @@
+// Ported from google-cloud-storage 1.21.0, src/storage/bidi_write/transport.rs and worker.rs (Apache-2.0); changed: no tasks, channels or heap.
+// Append, flush and finalise: "Calls while live".
+pub mod append;
+mod cut;
+pub mod flush;
