@@ -1,6 +1,7 @@
 -- An append repeated until all is taken cuts the same chunks as the crate's `push`, and holds the same bytes afterwards.
 use mathlib.Core.Path.{_≡_, refl, sym, ap, _∙_}
 use mathlib.Core.Bool.{Bool, true, false}
+use mathlib.Core.Option.{Option, none, some}
 use mathlib.Core.List.{List, [], _∷_, _++_, map, append-nil, map-append}
 use Prim.Native.Nat.{ℕ, zero, suc, _+_, _-_, _≤_, _<_}
 use native.Mathlib.Omega.{arith}
@@ -8,8 +9,8 @@ use lib.ListN.{length, take, drop, length-append, length-take, length-drop}
 use lib.Seq.{take-length, drop-length}
 use lib.Dec.{leb, ltb}
 use borrow.Author.Tests.{leb-true, leb-false, ltb-true, ltb-false}
-use Rattle.rules.specs.Message.{Bytes}
-use Rattle.rules.specs.Session.{ReplayChunk, Session, append, Result, chunks}
+use Rattle.rules.specs.Message.{Bytes, Request}
+use Rattle.rules.specs.Session.{ReplayChunk, Session, append, took, Result, chunks}
 use Rattle.rules.specs.Upload.{holds, appends}
 use Rattle.rules.specs.Step.{step}
 use Rattle.rules.specs.Notes.{accepted}
@@ -129,17 +130,18 @@ push-repeated limit (x ∷ held) d l h =
     (λ e. repeat-short (length d) limit (x ∷ held) d (omega arith) (omega (arith, ltb-true)))
     (λ e. repeat-held (length d) limit (x ∷ held) d l h (ltb-false _ _ e) refl)
 
--- ---- an accepted append of the rules is one such append
+-- ---- an accepted append of the rules is one such append, and answers how many bytes it took
 
-pub record Once (b : Bytes) (s t : Session) : Type 0 where
-  pub chunks-are : map ReplayChunk.bytes (chunks t) ≡ map ReplayChunk.bytes (chunks s) ++ (once (s .limit) (s .held) b) .0
-  pub held-is : t .held ≡ (once (s .limit) (s .held) b) .1
+pub record Once (b : Bytes) (s : Session) (r : Result) : Type 0 where
+  pub chunks-are : map ReplayChunk.bytes (chunks (r .session)) ≡ map ReplayChunk.bytes (chunks s) ++ (once (s .limit) (s .held) b) .0
+  pub held-is : r .session .held ≡ (once (s .limit) (s .held) b) .1
+  pub took-is : (q : Option Request) × (r .answer ≡ took (takenBy (s .limit) (s .held) b) q)
 
 record OnceIf (b : Bytes) (s : Session) (r : Result) : Type 0 where
-  once-if : accepted (r .answer) ≡ true → Once b s (r .session)
+  once-if : accepted (r .answer) ≡ true → Once b s r
 
 pub append-once : (x : ℕ) (d : Bytes) (out : ℕ) (s : Session) → accepted ((step (append (x ∷ d) out) s) .answer) ≡ true
-    → Once (x ∷ d) s ((step (append (x ∷ d) out) s) .session)
+    → Once (x ∷ d) s (step (append (x ∷ d) out) s)
 unfolding step appends holds once
 append-once x d out s = all .once-if
   where
@@ -147,5 +149,5 @@ append-once x d out s = all .once-if
     all =
         unless-ind (OnceIf (x ∷ d) s) s _ _ (λ n. record { once-if = λ e. let z : _≡_ {A = ℕ} 0 1 = cc in absurd (omega arith) })
         (λ t. choose-ind (OnceIf (x ∷ d) s) _ _ _
-        (λ e. record { once-if = λ f. record { chunks-are = rw (e, map-append); held-is = rw e } })
-        (λ e. record { once-if = λ f. record { chunks-are = rw (e, append-nil); held-is = rw e } }))
+        (λ e. record { once-if = λ f. record { chunks-are = rw (e, map-append); held-is = rw e; took-is = (some _, refl) } })
+        (λ e. record { once-if = λ f. record { chunks-are = rw (e, append-nil); held-is = rw e; took-is = (none, refl) } }))
