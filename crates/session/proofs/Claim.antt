@@ -1,0 +1,87 @@
+-- Demand 3, what is stated beyond it, the byte total and the bound on stored bytes, for an opening and any list of turns of the host's calls of which only
+-- what their `ensures` say is known.
+-- Assumes nothing.
+use mathlib.Core.Path.{_≡_, refl, sym, subst}
+use mathlib.Core.List.{List, [], _∷_}
+use Prim.Native.Nat.{ℕ}
+use lib.ListN.{length}
+use Rattle.rules.specs.Message.{Bytes}
+use Rattle.rules.specs.Session as R
+use Rattle.rules.specs.World.{World}
+use Rattle.rules.specs.Demand3.{Holds}
+use Rattle.rules.specs.Beyond.{HoldsBeyond}
+use Rattle.rules.specs.Total as total
+use Rattle.transport.specs.Promise.{Promise, Promised}
+use Rattle.transport.specs.Claim as core
+use Rattle.transport.specs.Claim.{Memory, Turn, left, turned, Called, leftBy}
+use Rattle.transport.specs.declared.Outcome.{Outcome}
+use Rattle.transport.proofs.Claim as program
+use Rattle.openings.specs.Opening.{Accepts}
+use Rattle.session.specs.Claim.{Unlent, Ensures, Did, AllDid, Begun, Begins, given, first, begins, Always, AllCalled, StoredBound}
+
+-- a promise at memory that is the same
+module _ (c : R.Call) (m : Memory) (r : Outcome) where
+  abbrev At : Bytes → Bytes → List ℕ → Bytes → Type 0
+  At out store table out′ = Promise c (m .session) (m .store) (m .table) out r store table out′
+
+  at-store : {out store store′ : Bytes} {table : List ℕ} {out′ : Bytes} → store ≡ store′ → At out store′ table out′ → At out store table out′
+  at-store {out} {store} {store′} {table} {out′} e = subst (λ (x : Bytes). At out x table out′) (sym e)
+
+  at-table : {out store : Bytes} {table table′ : List ℕ} {out′ : Bytes} → table ≡ table′ → At out store table′ out′ → At out store table out′
+  at-table {out} {store} {table} {table′} {out′} e = subst (λ (x : List ℕ). At out store x out′) (sym e)
+
+  at-out : {out store : Bytes} {table : List ℕ} {out′ : Bytes} → out ≡ [] → out′ ≡ [] → At [] store table [] → At out store table out′
+  at-out {out} {store} {table} {out′} e e′ p =
+      subst (λ (x : Bytes). At x store table out′) (sym e) (subst (λ (x : Bytes). At [] store table x) (sym e′) p)
+
+  unlent : {out store : Bytes} {table : List ℕ} {out′ : Bytes} → Unlent m out store table out′ → Promised c (m .session) r → At out store table out′
+  unlent u p = at-store (u .1) (at-table (u .2) (at-out (u .0) (u .3) (p (m .store) (m .table))))
+
+-- what each `ensures` says is the promise that the claims about the core ask for
+promised : (c : R.Call) (m : Memory) (out : Bytes) (r : Outcome) (store : Bytes) (table : List ℕ) (out′ : Bytes)
+    → Ensures c m out r store table out′ → Promise c (m .session) (m .store) (m .table) out r store table out′
+promised (R.append d n) m out r store table out′ e = subst (λ (k : ℕ). At (R.append d k) m r out store table out′) (sym (e .0)) (e .1)
+promised (R.flush n) m out r store table out′ e =
+    at-store (R.flush n) m r (e .1) (subst (λ (k : ℕ). At (R.flush k) m r out (m .store) table out′) (sym (e .0)) (e .2))
+promised (R.finalise n) m out r store table out′ e =
+    at-store (R.finalise n) m r (e .1) (subst (λ (k : ℕ). At (R.finalise k) m r out (m .store) table out′) (sym (e .0)) (e .2))
+promised (R.nextRequest n) m out r store table out′ e =
+    at-store (R.nextRequest n) m r (e .1) (at-table (R.nextRequest n) m r (e .2)
+    (subst (λ (k : ℕ). At (R.nextRequest k) m r out (m .store) (m .table) out′) (sym (e .0)) (e .3)))
+promised R.close m out r store table out′ e = unlent R.close m r (e .0) (e .1)
+promised R.sendFailed m out r store table out′ e = unlent R.sendFailed m r (e .0) (e .1)
+promised (R.response x) m out r store table out′ e = at-store (R.response x) m r (e .1) (at-out (R.response x) m r (e .0) (e .2) (e .3))
+promised (R.handshake x) m out r store table out′ e =
+    at-store (R.handshake x) m r (e .1) (at-out (R.handshake x) m r (e .0) (e .2) (e .3))
+promised (R.break b) m out r store table out′ e = unlent (R.break b) m r (e .0) (e .1)
+promised (R.judge v) m out r store table out′ e = unlent (R.judge v) m r (e .0) (e .1)
+promised (R.failedAttempt b v) m out r store table out′ e = unlent (R.failedAttempt b v) m r (e .0) (e .1)
+
+all-did : (ts : List Turn) (m : Memory) (w : World) → AllDid ts m w → core.AllDid ts m w
+all-did [] m w d = tt
+all-did (t ∷ ts) m w d = (
+  record { called = λ c e. promised c m (t .out) (t .outcome) (t .store) (t .table) (t .out′) (d .0 .called c e); idle = d .0 .idle },
+  all-did ts (left t) (turned t w) (d .1),
+)
+
+all-called : (ts : List Called) (m : Memory) → AllCalled ts m → core.AllCalled ts m
+all-called [] m d = tt
+all-called (t ∷ ts) m d = (promised (t .call) m (t .out) (t .outcome) (t .store) (t .table) (t .out′) (d .0), all-called ts (leftBy t) (d .1))
+
+accepts : (b : Begun) → Begins b → Accepts (given b) (b .store) (b .table) (b .opened .session) (b .store′) (b .table′)
+accepts b g = g .promise .accepts (g .accepted)
+
+pub host-demand3 : Always (λ o object w. Holds w)
+host-demand3 b g object tail v ts d =
+    program.program-demand3 (given b) (first b) (accepts b g .valid) (accepts b g .opens-is) object tail v ts (all-did ts _ _ d)
+
+pub host-beyond-demand3 : Always (λ o object w. HoldsBeyond w)
+host-beyond-demand3 b g object tail v ts d =
+    program.program-beyond-demand3 (given b) (first b) (accepts b g .valid) (accepts b g .opens-is) object tail v ts (all-did ts _ _ d)
+
+pub host-byte-total : Always (λ o object w. total.Total (total.firstTaken (o .payload) object) w)
+host-byte-total b g object tail v ts d =
+    program.program-byte-total (given b) (first b) (accepts b g .valid) (accepts b g .opens-is) object tail v ts (all-did ts _ _ d)
+
+pub host-stored-bound : StoredBound
+host-stored-bound b g ts d = program.program-stored-bound (given b) (first b) (accepts b g .valid) (accepts b g .opens-is) ts (all-called ts _ d)

@@ -1,0 +1,43 @@
+// What a host may see of its session, by value.
+ghost use Rattle.session.specs.Shown.{Shown, Dials};
+use bidi_write::Offset;
+use state::AppendObjectSpec;
+use transport::Phase;
+use transport::Session;
+
+pub struct View {
+    pub phase: Phase,
+    // P
+    pub persisted_size: Offset,
+    // bytes
+    pub stored: usize,
+    pub held: usize,
+    pub capacity: usize,
+    // requests that wait for the server
+    pub waiters: usize,
+}
+
+pub fn view_of(s: Session) -> View
+    ensures { λ r. ⌜ Shown s r ⌝ }
+{
+    let phase = s.phase;
+    let w = s.worker;
+    let b = w.replay_buffer;
+    let q = w.pending_requests;
+    let persisted_size = w.persisted_size;
+    View {
+        phase,
+        persisted_size,
+        stored: b.unpersisted_bytes,
+        held: s.held,
+        capacity: b.capacity,
+        waiters: q.count,
+    }
+}
+
+// The spec that a reconnect dials with.
+pub fn spec_of(s: Session) -> AppendObjectSpec
+    ensures { λ r. ⌜ Dials s r ⌝ }
+{
+    s.worker.connector.spec
+}
