@@ -51,26 +51,7 @@ pub fn handshake_answer(a: Answer) {
 
 pub fn refusal(x: Refusal) {
     text(b"E");
-    number(refusal_number(x));
-}
-
-// Document 01's number.
-fn refusal_number(x: Refusal) -> u64 {
-    match x {
-        Refusal::Limits => 1,
-        Refusal::ShortMemory => 2,
-        Refusal::BadBucket => 3,
-        Refusal::TooLong => 4,
-        Refusal::Finalized => 5,
-        Refusal::WrongPhase => 6,
-        Refusal::Ended => 7,
-        Refusal::Full => 8,
-        Refusal::NoRoom => 9,
-        Refusal::PastEnd => 10,
-        Refusal::ShortOut => 11,
-        Refusal::Closed => 12,
-        Refusal::BadVerdict => 13,
-    }
+    number(lines::refusal_number(x));
 }
 
 // Bytes taken or waiters completed, and a request.

@@ -1,6 +1,7 @@
 -- Document 01 as definitions, in an order in which they can be read; docs/PAPER.md leads from the paper's sentences to them.
 -- The session and its step rules
 pub mod Message
+pub mod Ascii
 pub mod Spec
 pub mod Session
 pub mod Upload
@@ -23,5 +24,4 @@ pub mod Computed
 pub mod Points
 pub mod Refusals
 pub mod Cases
-pub mod Example
 pub mod Scenarios
