@@ -1,0 +1,47 @@
+"""When the two programs agree on a script: equal outputs, but for the list below.
+
+Intended differences that a script can show:
+
+- `?`: the crate has no answer, and the oracle's lines end there with the reason. Names and tokens that are not UTF-8: the crate has them as `String`. A bare
+  flush on a connection whose sends fail that the host does not report failed: the crate knows of the failure, the session does not. What comes before is
+  compared.
+
+Others can't be shown by a script: the attempt number at 2^32 - 1, which the crate's would pass, and 2^64 - 1 waiters. docs/DIFFERENCES.md has all of them.
+"""
+
+
+def comparable(crate, port):
+    """both outputs, as far as the crate has an answer"""
+    lines = crate.split(b"\n")
+    stop = next((i for i, line in enumerate(lines) if line.startswith(b"?")), None)
+    if stop is None:
+        return crate, port
+    return b"\n".join(lines[:stop]), b"\n".join(port.split(b"\n")[:stop])
+
+
+def agree(crate, port):
+    if crate == port:
+        return True
+    crate, port = comparable(crate, port)
+    return crate == port
+
+
+def calls(output):
+    """the lines of each call that wrote any"""
+    found = []
+    for line in output.split(b"\n"):
+        if line.startswith(b"  ") and found:
+            found[-1].append(line)
+        elif line:
+            found.append([line])
+    return found
+
+
+def first_difference(crate, port):
+    """the lines of the first call on which they differ, of either"""
+    crate, port = (calls(output) for output in comparable(crate, port))
+    for i in range(max(len(crate), len(port))):
+        a, b = (side[i] if i < len(side) else [b"(nothing)"] for side in (crate, port))
+        if a != b:
+            return a, b
+    raise ValueError("they agree")

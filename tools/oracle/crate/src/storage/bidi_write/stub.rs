@@ -1,0 +1,1 @@
+//! Stand-in: empty. The crate's file is not among the sources.

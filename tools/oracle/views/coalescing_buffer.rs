@@ -1,0 +1,8 @@
+
+// ORACLE-BEGIN
+impl CoalescingBuffer {
+    pub(crate) fn oracle_held(&self) -> &[u8] {
+        &self.buffer
+    }
+}
+// ORACLE-END
