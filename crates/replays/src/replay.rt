@@ -27,19 +27,7 @@ use transport::phases::phase_number;
 pub fn next_request(s: Session, store: &[u8], table: &[u64], out: &mut [u8]) -> Outcome
     ensures { λ r. ⌜ Promise (R.nextRequest (length (now (out .entry)))) s (now (store .entry)) (now (table .entry)) (now (out .entry)) r (now (store .exit)) (now (table .exit)) (now (out .exit)) ⌝ }
 {
-    let offset = s.write_offset;
-    let b = s.worker.replay_buffer;
-    let waiting = s.worker.pending_requests.count;
-    if guard(
-        s.limit,
-        s.slots,
-        s.held,
-        offset,
-        b,
-        waiting,
-        store.len(),
-        table.len(),
-    ) {
+    if guard(s, store.len(), table.len()) {
         next_guarded(s, store, table, out)
     } else {
         Outcome {

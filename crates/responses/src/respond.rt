@@ -140,11 +140,7 @@ fn admit_handshake(s: Session, store: usize, table: usize, m: Response, handle: 
 fn admit(s: Session, store: usize, table: usize, ended: bool, phase: bool, long: bool) -> Check
     ensures { λ r. ⌜ Admits s store table (rows ended false phase false long false false false false) r ⌝ }
 {
-    let w = s.worker;
-    let b = w.replay_buffer;
-    let q = w.pending_requests;
-    let at = s.write_offset;
-    if !guard(s.limit, s.slots, s.held, at, b, q.count, store, table) {
+    if !guard(s, store, table) {
         return Check::Refuse(Refusal::ShortMemory);
     }
     check(ended, false, phase, false, long, false, false, false, false)

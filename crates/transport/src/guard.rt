@@ -1,11 +1,31 @@
 // The guard at the head of every call, for a record or memory that no call left.
 ghost use Rattle.transport.specs.Check.{Decides};
-ghost use Rattle.transport.specs.Valid.{Guarded};
+ghost use Rattle.transport.specs.Valid.{Guarded, GuardedAt};
+use crate::Session;
 use bidi_write::Offset;
 use replay_buffer::ReplayBuffer;
 
-// Whether the numbers of a record stay within a store and a table of these lengths.
-pub fn guard(
+// Whether a record stays within a store and a table of these lengths.
+pub fn guard(s: Session, store: usize, table: usize) -> bool
+    ensures { λ r. ⌜ Decides (GuardedAt s store table) r ⌝ }
+{
+    let write_offset = s.write_offset;
+    let b = s.worker.replay_buffer;
+    let waiting = s.worker.pending_requests.count;
+    within(
+        s.limit,
+        s.slots,
+        s.held,
+        write_offset,
+        b,
+        waiting,
+        store,
+        table,
+    )
+}
+
+// Its numbers.
+fn within(
     limit: usize,
     slots: usize,
     held: usize,

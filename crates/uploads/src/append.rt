@@ -36,19 +36,7 @@ pub fn append(
             answer: Answer::Took(0, MaybeRequest::Absent),
         };
     }
-    let write_offset = s.write_offset;
-    let b = s.worker.replay_buffer;
-    let q = s.worker.pending_requests;
-    if !guard(
-        s.limit,
-        s.slots,
-        s.held,
-        write_offset,
-        b,
-        q.count,
-        store.len(),
-        table.len(),
-    ) {
+    if !guard(s, store.len(), table.len()) {
         return Outcome {
             session: s,
             answer: Answer::Refused(Refusal::ShortMemory),

@@ -40,19 +40,7 @@ pub fn finalise(s: Session, store: &[u8], table: &mut [u64], out: &mut [u8]) -> 
 fn ask(kind: PendingKind, s: Session, store: &[u8], table: &mut [u64], out: &mut [u8]) -> Outcome
     ensures { λ r. ⌜ Promise (callOf kind (length (now (out .entry)))) s (now (store .entry)) (now (table .entry)) (now (out .entry)) r (now (store .entry)) (now (table .exit)) (now (out .exit)) ⌝ }
 {
-    let write_offset = s.write_offset;
-    let b = s.worker.replay_buffer;
-    let q = s.worker.pending_requests;
-    if !guard(
-        s.limit,
-        s.slots,
-        s.held,
-        write_offset,
-        b,
-        q.count,
-        store.len(),
-        table.len(),
-    ) {
+    if !guard(s, store.len(), table.len()) {
         return Outcome {
             session: s,
             answer: Answer::Refused(Refusal::ShortMemory),

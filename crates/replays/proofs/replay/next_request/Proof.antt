@@ -21,7 +21,7 @@ returns c = search needs
 
 returns-2 : tie.Need-returns-2
 returns-2 c =
-    let start = c .before .before .before .before .before .before .before in
+    let start = c .before .before .before .before .before in
     refusal (R.nextRequest (length (start .args .out .now))) (start .args .s) (start .args .store .now) (start .args .table .now) (start .args .out .now) refusals.ShortMemory
     (λ v. absurd (c .before .guard .ensures .no (c .if1 .left) (v .guarded)))
 

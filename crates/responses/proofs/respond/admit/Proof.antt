@@ -10,7 +10,7 @@ guard-requires c κs = search needs
 
 returns : tie.Need-returns
 returns c =
-    let a = c .before .before .before .before .before .before .args in
+    let a = c .before .before .args in
     admits-none (a .s) (a .store) (a .table) _ (c .before .guard .ensures .no (not-true _ (c .if1 .taken)))
 
 check-requires : tie.Need-check-requires
@@ -18,7 +18,7 @@ check-requires c κs = search needs
 
 returns-2 : tie.Need-returns-2
 returns-2 c =
-    let a = c .before .before .before .before .before .before .before .args in
+    let a = c .before .before .before .args in
     admits (a .s) (a .store) (a .table) _ (c .check .result) (c .check .ensures) (c .before .before .guard .ensures .yes (not-false _ (c .before .if1 .left)))
 
 pub admit-spec : {M : Type 1} → statement M

@@ -19,13 +19,13 @@ guard-requires c κs = search needs
 
 returns-2 : tie.Need-returns-2
 returns-2 c =
-    let a = c .before .before .before .before .before .before .before .before .before .before .args in
+    let a = c .before .before .before .before .before .before .before .args in
     unguarded (R.append (a .«data» .now) (length (a .out .now))) (a .s) (a .store .now) (a .table .now) (a .out .now)
     (c .before .guard .ensures .no (not-true _ (c .if2 .taken)))
 
 append-guarded-requires : tie.Need-append-guarded-requires
 append-guarded-requires c κs =
-    (c .before .before .before .before .guard .ensures .yes (not-false _ (c .before .before .before .if2 .left)), omega (arith, c .before .before .before .before .before .before .before .before .if1 .left))
+    (c .before .before .before .before .guard .ensures .yes (not-false _ (c .before .before .before .if2 .left)), omega (arith, c .before .before .before .before .before .if1 .left))
 
 same-length : tie.Need-same-length
 same-length c = search needs

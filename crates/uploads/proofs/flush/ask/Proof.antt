@@ -12,7 +12,7 @@ guard-requires c κs = search needs
 
 returns : tie.Need-returns
 returns c =
-    let a = c .before .before .before .before .before .before .before .before .args in
+    let a = c .before .before .before .before .before .args in
     unguarded (callOf (a .kind) (length (a .out .now))) (a .s) (a .store .now) (a .table .now) (a .out .now)
     (c .before .guard .ensures .no (not-true _ (c .if1 .taken)))
 
