@@ -5,7 +5,6 @@ use crate::script::open_answer;
 use crate::script::opening;
 use crate::script::size;
 use bidi_write::Generation;
-use bidi_write::Offset;
 use bidi_write::Resource;
 use bidi_write::WriteStatus;
 use openings::opening::Capacity;

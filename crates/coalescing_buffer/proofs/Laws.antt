@@ -38,9 +38,6 @@ module _ (s : Session) (d : Bytes) where
   pub room-is : R.room d s ≡ takes (s .limit) (s .held) d
   room-is = refl
 
-  pub holding-is : R.holding d s ≡ holds (s .limit) (s .held) d
-  holding-is = refl
-
 -- ---- and in the code's numbers, at the bytes that the ring holds
 
 module _ (limit size head stored held : ℕ) (store : Bytes) (lent : size ≤ length store) (fits : stored + held ≤ size) where

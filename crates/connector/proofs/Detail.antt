@@ -1,6 +1,5 @@
 -- The redirect in a break, as the variants that were met tell it.
 use mathlib.Core.Path.{_≡_, ap, _∙_}
-use mathlib.Core.Option.{Option}
 use Rattle.rules.specs.Message as M
 use Rattle.bidi_write.specs.View.{breakOf, detailOf}
 use Rattle.bidi_write.specs.declared.Break.{Break}

@@ -6,8 +6,8 @@ use native.Mathlib.Omega.{arith}
 use lib.Bits.{bitXor, xor-lt}
 use lib.Dec.{lit<}
 use Rattle.crc32c.specs.Bytes.{Bytes}
-use Rattle.crc32c.specs.Reg.{feed, reg, zeros, ones32, crcOf, joined, updated}
-use Rattle.crc32c.proofs.Linear.{steps-lt, zeros-lt}
+use Rattle.crc32c.specs.Reg.{feed, reg, ones32, crcOf}
+use Rattle.crc32c.proofs.Linear.{steps-lt}
 
 feed-lt : (r b : ℕ) → r < 2 ^ 32 → b < 256 → feed r b < 2 ^ 32
 unfolding feed
@@ -21,12 +21,3 @@ reg-lt r (b ∷ bs) hr h = reg-lt (feed r b) bs (feed-lt r b hr (h .0)) (h .1)
 pub crc-lt : (bs : List ℕ) → Bytes bs → crcOf bs < 2 ^ 32
 unfolding crcOf
 crc-lt bs h = xor-lt 32 (reg ones32 bs) ones32 (reg-lt ones32 bs (lit< tt) h) (lit< tt)
-
-pub updated-lt : (c : ℕ) (bs : List ℕ) → c < 2 ^ 32 → Bytes bs → updated c bs < 2 ^ 32
-unfolding updated
-updated-lt c bs hc h =
-    xor-lt 32 (reg (bitXor c ones32) bs) ones32 (reg-lt (bitXor c ones32) bs (xor-lt 32 c ones32 hc (lit< tt)) h) (lit< tt)
-
-pub joined-lt : (a b n : ℕ) → a < 2 ^ 32 → b < 2 ^ 32 → joined a b n < 2 ^ 32
-unfolding joined
-joined-lt a b n ha hb = xor-lt 32 (zeros n a) b (zeros-lt n a ha) hb

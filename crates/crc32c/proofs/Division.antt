@@ -24,10 +24,6 @@ abbrev val : Bool → ℕ
 val true = 1
 val false = 0
 
-val-lt : (b : Bool) → val b < 2
-val-lt true = lit< tt
-val-lt false = lit< tt
-
 val-odd : (x : ℕ) → val (odd x) ≡ x % 2
 val-odd x = digit-ind (λ (d : ℕ). val (nonzero d) ≡ d) refl refl (x % 2) (odd-lt x)
 
@@ -56,11 +52,6 @@ low-xor : (n x y : ℕ) → lowFirst n (bitXor x y) ≡ lowFirst n x ⊕ lowFirs
 unfolding lowFirst _⊕_
 low-xor zero x y = refl
 low-xor (suc n) x y = ap₂ _∷_ (odd-xor x y) (ap (lowFirst n) (xor-half x y) ∙ low-xor n (x / 2) (y / 2))
-
-low-zero : (n : ℕ) → lowFirst n 0 ≡ none n
-unfolding lowFirst none
-low-zero zero = refl
-low-zero (suc n) = ap (_∷_ false) (low-zero n)
 
 -- one more digit is 0
 low-more : (n x : ℕ) → x < 2 ^ n → lowFirst (suc n) x ≡ lowFirst n x ++ (false ∷ [])

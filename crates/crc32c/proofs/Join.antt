@@ -2,12 +2,12 @@
 -- Assumes nothing.
 use mathlib.Core.Path.{_≡_, refl, sym, ap, _∙_}
 use mathlib.Core.List.{List, [], _∷_, _++_}
-use Prim.Native.Nat.{ℕ, zero, suc}
+use Prim.Native.Nat.{ℕ}
 use lib.ListN.{length}
-use lib.Bits.{bitXor, xor-comm, xor-self, xor-zero-r}
+use lib.Bits.{bitXor, xor-comm, xor-self}
 use Rattle.crc32c.specs.Reg.{steps, feed, reg, zeros, ones32, crcOf, joined, updated}
 use Rattle.crc32c.proofs.Xor.{xor-assoc, xor-cancel, xor-swap}
-use Rattle.crc32c.proofs.Linear.{steps-xor, steps-none}
+use Rattle.crc32c.proofs.Linear.{steps-xor}
 
 feed-xor : (r s b : ℕ) → feed (bitXor r s) b ≡ bitXor (feed r b) (steps 8 s)
 unfolding feed
@@ -43,17 +43,3 @@ crc-updated a b = ap (λ (x : ℕ). bitXor x ones32) (ap (λ (x : ℕ). reg x b)
 pub crc-none : crcOf [] ≡ 0
 unfolding crcOf reg
 crc-none = xor-self ones32
-
-zeros-none : (n : ℕ) → zeros n 0 ≡ 0
-unfolding zeros
-zeros-none zero = refl
-zeros-none (suc n) = ap (zeros n) steps-none ∙ zeros-none n
-
--- the sum of nothing, joined before and after another
-pub joined-first : (b n : ℕ) → joined 0 b n ≡ b
-unfolding joined
-joined-first b n = ap (λ (x : ℕ). bitXor x b) (zeros-none n)
-
-pub joined-last : (a : ℕ) → joined a 0 0 ≡ a
-unfolding joined zeros
-joined-last a = xor-zero-r a

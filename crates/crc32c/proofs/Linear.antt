@@ -5,7 +5,7 @@ use Prim.Native.Nat.{ℕ, zero, suc, _*_, _/_, _%_, _^_, _<_}
 use native.Mathlib.Omega.{arith}
 use lib.Bits.{bitXor, xor-lt}
 use lib.Dec.{lit<}
-use Rattle.crc32c.specs.Reg.{poly, step, steps, zeros}
+use Rattle.crc32c.specs.Reg.{poly, step, steps}
 use Rattle.crc32c.proofs.Xor.{odd-lt, xor-half, xor-odd, xor4, differ-mul, digit-ind}
 
 pub step-xor : (a b : ℕ) → step (bitXor a b) ≡ bitXor (step a) (step b)
@@ -36,8 +36,3 @@ pub steps-lt : (n r : ℕ) → r < 2 ^ 32 → steps n r < 2 ^ 32
 unfolding steps
 steps-lt zero r h = h
 steps-lt (suc n) r h = steps-lt n (step r) (step-lt r h)
-
-pub zeros-lt : (n r : ℕ) → r < 2 ^ 32 → zeros n r < 2 ^ 32
-unfolding zeros
-zeros-lt zero r h = h
-zeros-lt (suc n) r h = zeros-lt n (steps 8 r) (steps-lt 8 r h)

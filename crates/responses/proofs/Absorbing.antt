@@ -21,7 +21,6 @@ use Rattle.transport.specs.View.{phaseOf, ringSize, lentOf, endOf, heldOf, view
 use Rattle.transport.specs.Valid.{GuardedAt, Valid}
 use Rattle.transport.specs.Parts.{setWorker}
 use Rattle.responses.specs.Respond.{Absorbs}
-use Rattle.transport.specs.declared.Phase.{Phase}
 use Rattle.transport.specs.declared.Session.{Session}
 use Rattle.transport.proofs.Views.{no-cursor}
 

@@ -3,25 +3,20 @@
 use mathlib.Core.Path.{_≡_, refl, sym, ap, _∙_}
 use mathlib.Core.Bool.{Bool, true, false, not, _&&_}
 use mathlib.Core.Option.{some}
-use mathlib.Core.List.{List, [], _∷_}
-use Prim.Native.Nat.{ℕ, _*_, _-_, _<_, _≤_}
+use mathlib.Core.List.{List, []}
+use Prim.Native.Nat.{ℕ, _*_, _-_}
 use native.Mathlib.Omega.{arith}
-use borrow.Author.Tests.{leb-true}
 use lib.Dec.{leb, eqb}
-use lib.IntN.{pos}
-use lib.ListN.{length}
 use Rattle.rules.specs.Message.{Bytes}
 use Rattle.rules.specs.Session as R
-use Rattle.rules.specs.Respond.{bareRequest, lastStep, toReplay}
+use Rattle.rules.specs.Respond.{lastStep, toReplay}
 use Rattle.rules.specs.Upload.{flushRequest}
 use Rattle.bidi_write.specs.View.{requestOf}
 use Rattle.bidi_write.specs.declared.Cause.{Cause}
 use Rattle.bidi_write.specs.declared.Request.{Request}
-use Rattle.replay_buffer.specs.View.{total, wordsOf}
-use Rattle.replay_buffer.proofs.Laws.{length-words, end-offset}
 use Rattle.worker.specs.View.{workerOf}
 use Rattle.worker.specs.declared.Worker.{Worker}
-use Rattle.transport.specs.View.{phaseOf, lentOf, endOf, view}
+use Rattle.transport.specs.View.{phaseOf, view}
 use Rattle.transport.specs.Valid.{Valid}
 use Rattle.transport.specs.Parts.{setPhase, setWorker, EndsAs}
 use Rattle.transport.specs.Promise.{sentData}
@@ -36,7 +31,7 @@ use Rattle.transport.specs.declared.Refusal.{Refusal}
 use Rattle.transport.specs.declared.Sent.the-variants as sent
 use Rattle.transport.specs.declared.Session.{Session}
 use Rattle.responses.specs.declared.respond.Way.the-variants as way
-use Rattle.transport.proofs.Numbers.{fits, offset-is, stored-is, watermark-is}
+use Rattle.transport.proofs.Numbers.{watermark-is}
 use Rattle.transport.proofs.Views.{no-cursor, live-no-replay}
 use Rattle.transport.proofs.Bare.{bare-is}
 use Rattle.responses.proofs.Taking.{chosen, passed-over}

@@ -7,7 +7,7 @@ use native.Mathlib.Omega.{arith}
 use lib.ListN.{length, take, drop, getD, length-append, length-take, length-drop, take-append-drop}
 use lib.Seq.{length-paste, length-take-le, take-paste, take-add, take-take, drop-drop, drop-at, getD-take, getD-drop}
 use Rattle.ring.specs.Ring.{wrapped, rot, ring, part, Within, Written}
-use Rattle.ring.proofs.Paste.{part-append-le, part-take, drop-take-add, drop-past-paste, paste-add}
+use Rattle.ring.proofs.Paste.{part-append-le, part-take, drop-take-add, paste-add}
 use Rattle.ring.proofs.Rot.{length-rot, rot-rot}
 
 pub length-ring : {A : Type 0} (size head : ℕ) (s : List A) → size ≤ length s → length (ring size head s) ≡ size
@@ -98,12 +98,6 @@ module _ {A : Type 0} (size head at : ℕ) (src : List A) (n : ℕ) (before afte
       ∙ ap (λ (l : List A). take m (drop a l)) (take-paste r at src n starts enough)
       ∙ part-append-le a m (take at r) (take n src) t
       ∙ part-take a m at r starts h
-
-  -- a range after it
-  pub part-after : (a m : ℕ) → at + n ≤ a → part size head a m after ≡ part size head a m before
-  unfolding part
-  part-after a m h =
-      ap (λ (r : List A). take m (drop a r)) (written .inside) ∙ ap (take m) (drop-past-paste (ring size head before) src at n a starts enough h)
 
   -- a range that ends where the written one ends
   pub part-joined : (a m : ℕ) → a + m ≡ at → part size head a (m + n) after ≡ part size head a m before ++ take n src

@@ -1,13 +1,12 @@
 -- A word's halves come back; one element of a ring, put and read.
 -- Assumes nothing.
 use mathlib.Core.Path.{_≡_, sym, _∙_}
-use mathlib.Core.Logic.{_≢_}
 use mathlib.Core.List.{List, [], _∷_, _++_}
 use Prim.Native.Nat.{ℕ, _+_, _<_, _≤_, _^_}
 use native.Mathlib.Omega.{arith}
 use lib.Pow.{high, low}
-use lib.ListN.{length, drop, getD, set}
-use lib.Seq.{set-split, take-set-lt, drop-set-add, getD-set-same, getD-set-other}
+use lib.ListN.{length, drop, set}
+use lib.Seq.{set-split, take-set-lt, drop-set-add}
 use Rattle.ring.specs.Ring.{ring, part, Within, Written}
 use Rattle.ring.specs.Word.{packed, lenOf, sumOf}
 use Rattle.ring.proofs.Paste.{paste-one}
@@ -26,16 +25,6 @@ module _ {A : Type 0} (size head at : ℕ) (w : A) (before after : List A) (with
   ring-put =
       let l : length (ring size head before) ≡ size = length-ring size head before (within .room) in
       put .inside ∙ paste-one (ring size head before) at w (omega arith)
-
-  -- it is read there
-  pub read-put : (d : A) → getD (ring size head after) at d ≡ w
-  read-put d =
-      let l : length (ring size head before) ≡ size = length-ring size head before (within .room) in
-      rw ring-put (getD-set-same (ring size head before) at w d (omega arith))
-
-  -- every other place is as it was
-  pub read-other : (j : ℕ) (d : A) → j ≢ at → getD (ring size head after) j d ≡ getD (ring size head before) j d
-  read-other j d n = rw ring-put (getD-set-other (ring size head before) at j w d n)
 
   -- a range with the place in it has the element there
   pub part-put : (a i n : ℕ) → a + i ≡ at → i < n → part size head a n after ≡ set (part size head a n before) i w

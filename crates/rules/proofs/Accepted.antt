@@ -1,9 +1,9 @@
 -- What an accepted opening gives.
-use mathlib.Core.Path.{_≡_, refl, subst}
-use mathlib.Core.Bool.{Bool, true, false, _||_}
+use mathlib.Core.Path.{_≡_, refl}
+use mathlib.Core.Bool.{Bool, false, _||_}
 use mathlib.Core.Option.{Option, none, some}
 use mathlib.Core.List.{List, [], _∷_}
-use Prim.Native.Nat.{ℕ, zero, suc, _+_, _*_, _≤_, _<_}
+use Prim.Native.Nat.{ℕ, zero, suc, _≤_, _<_}
 use native.Mathlib.Omega.{arith}
 use lib.ListN.{length}
 use lib.Dec.{ltb, eqb}
@@ -52,17 +52,3 @@ accepted o s a =
           (ltb 1024 (length (objectOf (o .spec))) || over maxToken (tokenOf (o .spec)) || over maxHandle (handleOf (o .spec)) || over maxHandle (o .response .writeHandle)) _
           (f .0 .1 .1 .1 .0));
     }
-
--- the ranges in which C and the capacity of every session lie
-pub record Bounded (s : Session) : Type 0 where
-  pub positive : 0 < s .limit
-  pub limit-most : s .limit ≤ 2097152
-  pub capacity-least : 2 * s .limit + 1 ≤ s .worker .replayBuffer .capacity
-  pub capacity-most : s .worker .replayBuffer .capacity ≤ 1073741824
-  pub none-held : s .held ≡ []
-
-pub opening-bound : (o : Opening) (s : Session) → opens o ≡ opened s → Bounded s
-unfolding openSession
-opening-bound o s a =
-    let h : Accepted o s = accepted o s a in
-    subst Bounded (h .is) (record { positive = h .positive; limit-most = h .limit-most; capacity-least = omega arith; capacity-most = omega arith; none-held = refl })

@@ -2,7 +2,7 @@
 use mathlib.Core.Path.{_≡_, refl, sym, _∙_, subst}
 use mathlib.Core.Bool.{Bool, true, false, not, cond, _&&_}
 use mathlib.Core.Option.{Option, none, some}
-use mathlib.Core.List.{List, [], _∷_, _++_}
+use mathlib.Core.List.{List, [], _∷_}
 use Prim.Native.Nat.{ℕ, _+_, _≤_}
 use native.Mathlib.Omega.{arith}
 use lib.ListN.{length}
@@ -10,7 +10,7 @@ use lib.IntN.{ℤ, pos, negsuc}
 use lib.Signed.{ltZ}
 use borrow.Author.Tests.{ltb-true}
 use Rattle.rules.specs.Message.{Bytes, Response, sizeOf}
-use Rattle.rules.specs.Session.{Connector, alreadyFinalized, replay, Session, handshake, Answer, Result, setConnector, setMark, setWorker, isReplay, isEnded, chunks, waiters, ending}
+use Rattle.rules.specs.Session.{Connector, alreadyFinalized, replay, Session, handshake, Result, setConnector, setMark, setWorker, isReplay, isEnded, chunks, waiters, ending}
 use Rattle.rules.specs.Respond.{ack, satisfied, absorbs, takes, bareRequest, lastStep, responds, toReplay, shakes}
 use Rattle.rules.specs.Step.{step}
 use Rattle.rules.specs.Server.{setMessages, connects, Told, alone, inResource, says}

@@ -97,11 +97,6 @@ module _ {ℓ} {A : Type ℓ} where
   all-append Q [] m h k = k
   all-append Q (x ∷ xs) m h k = (h .0, all-append Q xs m (h .1) k)
 
-  pub all-take : (Q : A → Type 0) (n : ℕ) (l : List A) → All Q l → All Q (take n l)
-  all-take Q zero l h = tt
-  all-take Q (suc n) [] h = tt
-  all-take Q (suc n) (x ∷ xs) h = (h .0, all-take Q n xs (h .1))
-
   pub all-get : (Q : A → Type 0) (l : List A) (i : ℕ) (x : A) → All Q l → getElem? l i ≡ some x → Q x
   all-get Q [] i x h e = let z : _≡_ {A = ℕ} 0 1 = cc in absurd (omega arith)
   all-get Q (y ∷ ys) zero x h e = let f : y ≡ x = cc in subst Q f (h .0)

@@ -6,8 +6,8 @@ use Prim.Native.Nat.{ℕ, _+_, _-_, min}
 use lib.ListN.{length, take}
 use lib.Dec.{leb}
 use lib.IntN.{ℤ}
-use Rattle.rules.specs.Message.{Bytes, ChecksummedData, Request, Response, sizeOf}
-use Rattle.rules.specs.Session.{PendingKind, flushing, finalizing, Cause, Call, append, flush, finalise, nextRequest, close, sendFailed, response, handshake, break, judge, failedAttempt, Answer, refused, took, sends, waits, completes, attempt, ok, done, ends}
+use Rattle.rules.specs.Message.{Bytes, ChecksummedData, Request, sizeOf}
+use Rattle.rules.specs.Session.{PendingKind, flushing, finalizing, Call, append, flush, finalise, nextRequest, close, sendFailed, response, handshake, break, judge, failedAttempt, Answer, refused, took, sends, waits, completes, attempt, ok, done, ends}
 use Rattle.rules.specs.Opening.{larger}
 
 -- a waiter made: its kind, and the length of the base and the bytes taken before the call that made it

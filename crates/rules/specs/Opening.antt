@@ -1,7 +1,7 @@
 -- "Opening": refusals 1 to 5 in order, else the session that the calls start from (`connect_attempt`, `start_worker`).
 use mathlib.Core.Bool.{Bool, true, false, not, cond, _&&_, _||_}
 use mathlib.Core.Option.{Option, none, some, Option·getD}
-use mathlib.Core.List.{List, [], _∷_, _++_}
+use mathlib.Core.List.{List, [], _∷_}
 use Prim.Native.Nat.{ℕ, _+_, _*_, _-_, max}
 use lib.ListN.{length}
 use lib.Dec.{leb, ltb, eqb}

@@ -1,7 +1,7 @@
 -- "Breaks and replay", first half: break, verdict, failed attempt (`Connector::reconnect` without clock, retry_redirect.rs, redirect.rs).
 use mathlib.Core.Bool.{Bool, true, false, not, cond, _&&_, _||_}
 use mathlib.Core.Option.{Option, none, some}
-use mathlib.Core.List.{List, [], _∷_}
+use mathlib.Core.List.{[], _∷_}
 use Prim.Native.Nat.{ℕ, suc, _-_, _^_, min}
 use lib.Dec.{ltb, eqb}
 use Rattle.rules.specs.Message.{Redirect, Break, redirectIn, isRedirect, isEnd, over, maxHandle, maxToken}

@@ -1,7 +1,7 @@
 -- "Breaks and replay", second half: next request and a send reported failed (`Worker::reconnect` after the handshake).
 use mathlib.Core.Bool.{Bool, true, false, not, cond, _&&_}
 use mathlib.Core.Option.{Option, none, some}
-use mathlib.Core.List.{List, [], _∷_}
+use mathlib.Core.List.{[], _∷_}
 use Prim.Native.Nat.{ℕ, suc, _-_}
 use lib.ListN.{length, getElem?}
 use Rattle.rules.specs.Session.{ReplayChunk, PendingRequest, Phase, live, closing, connecting, verdict, replay, ended, Sent, nothing, aRequest, bareFlush, Session, sends, ok, done, Result, answers, setMark, setWorker, setPhase, isReplay, isEnded, chunks, waiters, watermark, shortOut, choose, unless}

@@ -1,13 +1,13 @@
 -- Responses and handshakes: `handle_response_success` of worker.rs, `ack` of replay_buffer.rs.
 use mathlib.Core.Bool.{Bool, true, false, not, cond, _&&_, _||_}
 use mathlib.Core.Option.{Option, none, some}
-use mathlib.Core.List.{List, [], _∷_, _++_}
+use mathlib.Core.List.{List, [], _∷_}
 use Prim.Native.Nat.{ℕ, suc}
 use lib.ListN.{length, drop}
 use lib.IntN.{ℤ, pos, natAbs, _+ℤ_, _-ℤ_}
 use lib.Signed.{leZ, ltZ}
 use Rattle.crc32c.specs.Reg.{crcOf}
-use Rattle.rules.specs.Message.{Bytes, Request, Response, sizeOf, isFinalized, over, maxHandle}
+use Rattle.rules.specs.Message.{Request, Response, sizeOf, isFinalized, over, maxHandle}
 use Rattle.rules.specs.Spec.{noted}
 use Rattle.rules.specs.Session.{ReplayChunk, Connector, PendingKind, flushing, finalizing, PendingRequest, Worker, replay, nothing, bareFlush, regressed, alreadyFinalized, Session, completes, Result, answers, setConnector, setMark, setWorker, setPhase, isLive, isClosing, isConnecting, isEnded, chunks, waiters, watermark, complete, choose, unless, ending}
 use Rattle.rules.specs.Upload.{flushRequest}

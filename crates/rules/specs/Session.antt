@@ -1,6 +1,6 @@
 -- The session's state, grouped as the crate's structs own each other, the calls, the answers, and the tests that refusals and rules ask.
 use mathlib.Core.Bool.{Bool, true, false, not, cond, _&&_, _||_}
-use mathlib.Core.Option.{Option, none, some}
+use mathlib.Core.Option.{Option}
 use mathlib.Core.List.{List, [], _∷_, _++_}
 use Prim.Native.Nat.{ℕ, _*_, _-_, _^_}
 use lib.ListN.{length}

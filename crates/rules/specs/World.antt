@@ -11,7 +11,7 @@ use Rattle.rules.specs.Message.{Bytes, Request, Response}
 use Rattle.rules.specs.Session.{Session, Call, append, flush, finalise, nextRequest, close, sendFailed, response, handshake, break, judge, failedAttempt, Answer, Result}
 use Rattle.rules.specs.Step.{step}
 use Rattle.rules.specs.Opening.{Opening, openSize}
-use Rattle.rules.specs.Server.{Server, setRequests, setMessages, cutOff, loses, connects, takesNext, persists, Told, states, says}
+use Rattle.rules.specs.Server.{Server, setRequests, setMessages, cutOff, loses, connects, takesNext, persists, Told, says}
 use Rattle.rules.specs.Notes.{Notes, accepted, requestIn, note}
 
 pub record World : Type 0 where

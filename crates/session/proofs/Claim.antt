@@ -1,10 +1,9 @@
 -- Demand 3, what is stated beyond it, the byte total and the bound on stored bytes, for an opening and any list of turns of the host's calls of which only
 -- what their `ensures` say is known.
 -- Assumes nothing.
-use mathlib.Core.Path.{_≡_, refl, sym, subst}
+use mathlib.Core.Path.{_≡_, sym, subst}
 use mathlib.Core.List.{List, [], _∷_}
 use Prim.Native.Nat.{ℕ}
-use lib.ListN.{length}
 use Rattle.rules.specs.Message.{Bytes}
 use Rattle.rules.specs.Session as R
 use Rattle.rules.specs.World.{World}
@@ -17,7 +16,7 @@ use Rattle.transport.specs.Claim.{Memory, Turn, left, turned, Called, leftBy}
 use Rattle.transport.specs.declared.Outcome.{Outcome}
 use Rattle.transport.proofs.Claim as program
 use Rattle.openings.specs.Opening.{Accepts}
-use Rattle.session.specs.Claim.{Unlent, Ensures, Did, AllDid, Begun, Begins, given, first, begins, Always, AllCalled, StoredBound}
+use Rattle.session.specs.Claim.{Unlent, Ensures, AllDid, Begun, Begins, given, first, Always, AllCalled, StoredBound}
 
 -- a promise at memory that is the same
 module _ (c : R.Call) (m : Memory) (r : Outcome) where

@@ -1,15 +1,11 @@
 -- The numbers of a valid record are those of the rules' session.
 -- Assumes nothing.
-use mathlib.Core.Path.{_≡_, refl, sym}
-use mathlib.Core.List.{List}
+use mathlib.Core.Path.{refl, sym}
 use native.Mathlib.Omega.{arith}
-use Rattle.rules.specs.Message.{Bytes}
 use Rattle.connector.specs.View.{connectorOf}
-use Rattle.state.specs.View.{specOf}
 use Rattle.ring.proofs.Laws.{length-part}
 use Rattle.worker.specs.View.{workerOf}
 use Rattle.transport.specs.View.{lentOf, view}
-use Rattle.transport.specs.Valid.{Valid}
 use Rattle.transport.specs.declared.Session.{Session}
 use Rattle.transport.proofs.Numbers.{stored-is, waiters-are}
 use Rattle.session.specs.Shown.{Shown, Dials}

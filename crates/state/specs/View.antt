@@ -1,8 +1,7 @@
 -- The spec of the code as the rules' spec.
-use mathlib.Core.Path.{_≡_}
 use mathlib.Core.Bool.{Bool, true, false}
 use mathlib.Core.Option.{Option, none, some}
-use Prim.Native.Nat.{ℕ, _≤_}
+use Prim.Native.Nat.{_≤_}
 use lib.ListN.{take}
 use lib.IntN.{ℤ}
 use Rattle.rules.specs.Message as M

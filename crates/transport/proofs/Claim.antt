@@ -3,9 +3,7 @@
 use mathlib.Core.Path.{_≡_, refl, sym, ap, _∙_, subst}
 use mathlib.Core.List.{List, [], _∷_, map}
 use Prim.Native.Nat.{ℕ, _+_, _-_, _≤_}
-use native.Mathlib.Omega.{arith}
 use Rattle.rules.specs.Session as R
-use Rattle.rules.specs.Step.{step}
 use Rattle.rules.specs.World.{World}
 use Rattle.rules.specs.Demand3.{Holds}
 use Rattle.rules.specs.Beyond.{HoldsBeyond}
@@ -16,7 +14,7 @@ use Rattle.rules.proofs.Bound.{stored-bound}
 use Rattle.worker.specs.View.{workerOf}
 use Rattle.transport.specs.View.{view, answerOf}
 use Rattle.transport.specs.Valid.{Valid}
-use Rattle.transport.specs.Claim.{Memory, Turn, left, Did, turned, AllDid, ran, Always, Called, leftBy, AllCalled, leftByAll, StoredBound}
+use Rattle.transport.specs.Claim.{Memory, Turn, left, turned, AllDid, ran, Always, Called, leftBy, AllCalled, leftByAll, StoredBound}
 use Rattle.transport.proofs.Numbers.{stored-is}
 
 abbrev viewOf : Memory → R.Session

@@ -1,13 +1,11 @@
 -- A session that ends: its waiters are gone, the rest stays.
 -- Assumes nothing.
-use mathlib.Core.Path.{_≡_, refl, sym, ap, ap₂, _∙_, subst}
-use mathlib.Core.Bool.{Bool, true, false}
+use mathlib.Core.Path.{_≡_, refl, sym, ap, ap₂, _∙_}
 use mathlib.Core.List.{List, []}
 use Prim.Native.Nat.{ℕ, _≤_}
 use native.Mathlib.Omega.{arith}
 use lib.ListN.{length}
 use lib.IntN.{ℤ}
-use Rattle.rules.specs.Message.{Bytes}
 use Rattle.rules.specs.Session as R
 use Rattle.bidi_write.specs.View.{causeOf}
 use Rattle.bidi_write.specs.declared.Cause.{Cause}
@@ -16,7 +14,7 @@ use Rattle.worker.specs.View.{waitersOf, workerOf}
 use Rattle.worker.specs.declared.PendingRequests.{PendingRequests}
 use Rattle.worker.specs.declared.Worker.{Worker}
 use Rattle.transport.specs.View.{lentOf, endOf, view}
-use Rattle.transport.specs.Valid.{Guarded, Valid}
+use Rattle.transport.specs.Valid.{Guarded}
 use Rattle.transport.specs.Parts.{setPhase, setWorker, EndsAs}
 use Rattle.transport.specs.declared.Session.{Session}
 use Rattle.transport.specs.declared.Phase.the-variants as phase

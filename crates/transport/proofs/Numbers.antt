@@ -1,18 +1,18 @@
 -- What the rules ask of a session at a view, by the numbers of the record.
 -- Assumes nothing.
-use mathlib.Core.Path.{_≡_, refl, sym, ap, ap₂, _∙_}
+use mathlib.Core.Path.{_≡_, sym, ap, ap₂, _∙_}
 use mathlib.Core.Bool.{Bool, not, _&&_}
 use mathlib.Core.List.{List}
 use Prim.Native.Nat.{ℕ, _*_, _-_}
 use native.Mathlib.Omega.{arith}
 use lib.ListN.{length}
-use lib.IntN.{ℤ, pos}
+use lib.IntN.{pos}
 use lib.Dec.{leb, eqb}
 use Rattle.rules.specs.Message.{Bytes}
 use Rattle.rules.specs.Session as R
-use Rattle.replay_buffer.specs.View.{Fits, queueOf}
+use Rattle.replay_buffer.specs.View.{Fits}
 use Rattle.replay_buffer.proofs.Laws.{stored-bytes, length-queue}
-use Rattle.worker.specs.View.{waitersOf, workerOf}
+use Rattle.worker.specs.View.{workerOf}
 use Rattle.worker.proofs.Waiters.{isNil-is}
 use Rattle.bidi_write.proofs.Signs.{pos-back}
 use Rattle.transport.specs.View.{lentOf, endOf, view}

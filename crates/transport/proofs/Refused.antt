@@ -1,6 +1,6 @@
 -- What a list of refusals comes to, in the code and in the rules, and the promise of a refused call.
 -- Assumes nothing.
-use mathlib.Core.Path.{_≡_, refl, sym, ap, _∙_}
+use mathlib.Core.Path.{_≡_, refl, sym, ap}
 use mathlib.Core.Bool.{Bool, true, false, cond}
 use mathlib.Core.List.{List, [], _∷_}
 use Prim.Native.Nat.{ℕ}
@@ -15,7 +15,6 @@ use Rattle.transport.specs.Check.{checked, numbered}
 use Rattle.transport.specs.declared.Session.{Session}
 use Rattle.transport.specs.declared.Refusal.{Refusal}
 use Rattle.transport.specs.declared.Answer.the-variants as answer
-use Rattle.transport.specs.declared.Check.{Check}
 use Rattle.transport.specs.declared.Check.the-variants as check
 
 same-refusal : (x y : Refusal) → check.Refuse x ≡ check.Refuse y → x ≡ y

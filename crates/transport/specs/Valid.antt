@@ -10,12 +10,11 @@ use Rattle.rules.specs.Message.{Bytes}
 use Rattle.rules.specs.Session as R
 use Rattle.bidi_write.specs.Numbers.{toℕ}
 use Rattle.state.specs.View.{SpecFits}
-use Rattle.replay_buffer.specs.View.{Lent, wordsOf, total, Sound}
+use Rattle.replay_buffer.specs.View.{wordsOf, total, Sound}
 use Rattle.replay_buffer.specs.declared.ReplayBuffer.{ReplayBuffer}
 use Rattle.worker.specs.View.{waitersOf}
 use Rattle.worker.specs.declared.Worker.{Worker}
 use Rattle.transport.specs.View.{phaseOf, ringSize, lentOf}
-use Rattle.transport.specs.declared.Cursor.{Cursor}
 use Rattle.transport.specs.declared.Phase.{Phase}
 use Rattle.transport.specs.declared.Phase.the-variants as phase
 use Rattle.transport.specs.declared.Session.{Session}

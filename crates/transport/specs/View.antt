@@ -1,5 +1,4 @@
 -- The session of the code, with the lent store and table, as the rules' session; its answers as the rules' answers.
-use mathlib.Core.Bool.{Bool, true, false}
 use mathlib.Core.Option.{Option, none, some}
 use mathlib.Core.List.{List}
 use Prim.Native.Nat.{ℕ, _+_, _*_, _-_}
@@ -12,7 +11,6 @@ use Rattle.bidi_write.specs.View.{checksumOf, requestOf, causeOf}
 use Rattle.replay_buffer.specs.View.{Lent}
 use Rattle.replay_buffer.specs.declared.ReplayBuffer.{ReplayBuffer}
 use Rattle.worker.specs.View.{workerOf}
-use Rattle.transport.specs.declared.Cursor.{Cursor}
 use Rattle.transport.specs.declared.Phase.{Phase}
 use Rattle.transport.specs.declared.Phase.the-variants as phase
 use Rattle.transport.specs.declared.Sent.{Sent}

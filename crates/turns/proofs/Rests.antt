@@ -16,7 +16,7 @@ use Rattle.transport.specs.declared.Answer.the-variants as answer
 use Rattle.records.specs.declared.Call.{Call}
 use Rattle.records.specs.declared.Call.the-variants as call
 use Rattle.lines.specs.Example.{by, again}
-use Rattle.turns.specs.Turn.{callOf, restOf, Continues}
+use Rattle.turns.specs.Turn.{callOf, Continues}
 use Rattle.turns.specs.declared.Rest.{Rest}
 use Rattle.turns.specs.declared.Rest.the-variants as rest
 

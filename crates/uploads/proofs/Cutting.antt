@@ -1,7 +1,7 @@
 -- A chunk is cut: what the code leaves in the record and the memory is what the rules say.
 -- Assumes nothing.
 use mathlib.Core.Path.{_≡_, refl, sym, ap, ap₂, _∙_, subst}
-use mathlib.Core.Bool.{Bool, true, not, _&&_, _||_}
+use mathlib.Core.Bool.{Bool, not, _&&_, _||_}
 use mathlib.Core.Option.{Option, some}
 use mathlib.Core.List.{List, [], _∷_, _++_}
 use Prim.Native.Nat.{ℕ, _+_, _*_, _-_, _≤_}
@@ -30,12 +30,9 @@ use Rattle.worker.specs.View.{waitersOf, workerOf}
 use Rattle.transport.specs.View.{phaseOf, lentOf, endOf, view}
 use Rattle.transport.specs.Valid.{GuardedAt, Valid}
 use Rattle.uploads.specs.Upload.{chunkAt, CutRoom, CutBytes, joinedTo, flushesWith, cutSession, CutSession, Cuts}
-use Rattle.transport.specs.declared.Phase.{Phase}
-use Rattle.transport.specs.declared.Phase.the-variants as phase
 use Rattle.transport.specs.declared.Session.{Session}
 use Rattle.uploads.specs.declared.cut.Sending.{Sending}
 use Rattle.uploads.specs.declared.cut.Pushed.{Pushed}
-use Rattle.transport.proofs.Tests.{clash}
 use Rattle.transport.proofs.Views.{no-cursor, live-no-replay}
 use Rattle.transport.proofs.Numbers.{fits, offset-is, none-waits}
 

@@ -1,5 +1,5 @@
 -- The waiting requests as a list: its length, its elements, and how many a response completes. Assumes nothing.
-use mathlib.Core.Path.{_≡_, refl, sym, ap, _∙_}
+use mathlib.Core.Path.{_≡_, refl, sym, _∙_}
 use mathlib.Core.Bool.{Bool, true, false, not, cond, _&&_}
 use mathlib.Core.Option.{Option, none, some}
 use mathlib.Core.List.{List, [], _∷_, map}
@@ -50,15 +50,6 @@ module _ (q : PendingRequests) (array : length (q .requests) ≡ 16) (fits : q .
   pub length-waiters : length (waitersOf q) ≡ q .count
   unfolding waitersOf
   length-waiters = length-map (take (q .count) (q .requests)) pendingOf ∙ length-take-le (q .count) (q .requests) (omega arith)
-
-  pub isNil-waiters : S.isNil (waitersOf q) ≡ eqb (q .count) 0
-  isNil-waiters = isNil-is (waitersOf q) ∙ ap (λ (n : ℕ). eqb n 0) length-waiters
-
-pub waiters-past : (q : PendingRequests) (i : ℕ) → q .count ≤ i → getElem? (waitersOf q) i ≡ none
-unfolding waitersOf
-waiters-past q i h =
-    let l : List PendingRequest = take (q .count) (q .requests) in
-    element-past (map pendingOf l) i (rw (length-map l pendingOf, length-take) (omega arith))
 
 -- ---- a response
 

@@ -6,8 +6,6 @@ use mir.Syntax.{w64}
 use mir.Facts.{toZ-pos}
 use Rattle.bidi_write.proofs.from_nat.Statement.{statement}
 use Rattle.bidi_write.proofs.from_nat.Tie as tie
-use Rattle.bidi_write.proofs.from_nat.Reads as reads
-use Rattle.bidi_write.proofs.from_nat.Lts as lts
 
 cast-t2 : tie.Need-cast-t2
 cast-t2 c = search needs

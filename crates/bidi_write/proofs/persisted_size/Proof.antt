@@ -6,30 +6,22 @@ use Rattle.bidi_write.specs.View.{statusOf}
 use Rattle.bidi_write.specs.declared.WriteStatus.{WriteStatus}
 use Rattle.bidi_write.proofs.persisted_size.Statement.{statement}
 use Rattle.bidi_write.proofs.persisted_size.Tie as tie
-use Rattle.bidi_write.proofs.persisted_size.Reads as reads
-use Rattle.bidi_write.proofs.persisted_size.Lts as lts
 
--- src/lib.rt:102:32
 enum-told : tie.Need-enum-told
 enum-told c = search needs
 
--- src/lib.rt:103:36
 enum-known-s : tie.Need-enum-known-s
 enum-known-s c = search needs
 
--- src/lib.rt:104:31
 enum-known-s-2 : tie.Need-enum-known-s-2
 enum-known-s-2 c = search needs
 
--- src/lib.rt:98:1
 returns : tie.Need-returns
 returns c = search needs
 
--- src/lib.rt:98:1
 returns-2 : tie.Need-returns-2
 returns-2 c = ap (λ (s : WriteStatus). M.sizeOf (statusOf s)) (sym (c .before .s .given .1))
 
--- src/lib.rt:98:1
 returns-3 : tie.Need-returns-3
 returns-3 c = ap (λ (s : WriteStatus). M.sizeOf (statusOf s)) (sym (c .before .before .s2 .given .1))
 

@@ -1,17 +1,15 @@
 -- `bidi_write::to_nat` meets its contract.
-use mathlib.Core.Path.{_≡_, sym, ap, _∙_}
-use mathlib.Core.Bool.{Bool, true, false}
+use mathlib.Core.Path.{_≡_, sym}
+use mathlib.Core.Bool.{false}
 use native.Mathlib.Omega.{arith}
 use borrow.Author.Needs.{needs}
-use lib.IntN.{ℤ, pos, natAbs}
+use lib.IntN.{pos}
 use lib.Signed.{ltZ}
 use mir.Syntax.{w64}
 use mir.Val.{toZ, ofZ, SFits}
 use Rattle.bidi_write.proofs.Signs.{below-zero, not-below-zero, toℕ-fits}
 use Rattle.bidi_write.proofs.to_nat.Statement.{statement}
 use Rattle.bidi_write.proofs.to_nat.Tie as tie
-use Rattle.bidi_write.proofs.to_nat.Reads as reads
-use Rattle.bidi_write.proofs.to_nat.Lts as lts
 
 back : (c : tie.Else1) → toZ w64 (ofZ w64 (c .before .before .args .a .0)) ≡ c .before .before .args .a .0
 back c = search needs

@@ -1,5 +1,4 @@
 -- `connector::over` meets its contract.
-use borrow.Author.Needs.{needs}
 use Rattle.connector.proofs.over.Statement.{statement}
 use Rattle.connector.proofs.over.Tie as tie
 

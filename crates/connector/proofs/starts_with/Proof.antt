@@ -4,7 +4,6 @@ use borrow.Author.Needs.{needs}
 use borrow.Author.Tests.{eq-eqb, ne-eqb}
 use mathlib.Core.Path.{_≡_, refl, sym, ap, _∙_}
 use mathlib.Core.Bool.{Bool, _&&_}
-use mathlib.Core.List.{[]}
 use Prim.Native.Nat.{ℕ, _+_, _-_, _≤_}
 use native.Mathlib.Omega.{arith}
 use lib.ListN.{length, drop, getD}
@@ -14,8 +13,6 @@ use Rattle.rules.specs.Opening.{startsWith}
 use Rattle.connector.proofs.Prefix.{shorter, step}
 use Rattle.connector.proofs.starts_with.Statement.{statement}
 use Rattle.connector.proofs.starts_with.Tie as tie
-use Rattle.connector.proofs.starts_with.Reads as reads
-use Rattle.connector.proofs.starts_with.Lts as lts
 
 abbrev Inv-loop : tie.InvT-loop
 Inv-loop b prefix i₀ i = (i ≤ length prefix) × (startsWith prefix b ≡ startsWith (drop i prefix) (drop i b))

@@ -13,12 +13,6 @@ use Rattle.records.specs.Record.{RS, HS, little, format, after, reading}
 use Rattle.records.proofs.Fields.{sized, size-cut, judged, verdict-cut, no-mark, marked, mark-cut}
 use Rattle.records.proofs.read.Statement.{statement}
 use Rattle.records.proofs.read.Tie as tie
-use Rattle.records.proofs.read.Reads as reads
-use Rattle.records.proofs.read.Lts as lts
-use Rattle.records.proofs.i64_at.Reads as i64-at-reads
-use Rattle.records.proofs.read_append.Reads as read-append-reads
-use Rattle.records.proofs.read_open.Reads as read-open-reads
-use Rattle.records.proofs.u16_at.Reads as u16-at-reads
 
 abbrev mark : String → ℕ
 mark s = little (ascii s)

@@ -8,9 +8,6 @@ use Rattle.records.specs.Record.{little}
 use Rattle.records.proofs.Fields.{appended, append-cut}
 use Rattle.records.proofs.read_append.Statement.{statement}
 use Rattle.records.proofs.read_append.Tie as tie
-use Rattle.records.proofs.read_append.Reads as reads
-use Rattle.records.proofs.read_append.Lts as lts
-use Rattle.records.proofs.u16_at.Reads as u16-at-reads
 
 returns : tie.Need-returns
 returns c = (sym (append-cut (now (c .before .before .args .input)) (omega arith)), tt)

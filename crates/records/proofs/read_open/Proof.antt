@@ -6,11 +6,6 @@ use denote.Ref.{now}
 use Rattle.records.proofs.Fields.{opened, open-cut}
 use Rattle.records.proofs.read_open.Statement.{statement}
 use Rattle.records.proofs.read_open.Tie as tie
-use Rattle.records.proofs.read_open.Reads as reads
-use Rattle.records.proofs.read_open.Lts as lts
-use Rattle.records.proofs.i64_at.Reads as i64-at-reads
-use Rattle.records.proofs.u16_at.Reads as u16-at-reads
-use Rattle.records.proofs.u32_at.Reads as u32-at-reads
 
 returns : tie.Need-returns
 returns c = (sym (open-cut (now (c .before .before .args .input)) (omega arith)), tt)

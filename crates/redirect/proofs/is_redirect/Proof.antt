@@ -1,6 +1,6 @@
 -- `redirect::is_redirect` meets its contract: at each return, the variants that were met.
 use borrow.Author.Needs.{needs}
-use mathlib.Core.Path.{_≡_, sym, ap, _∙_}
+use mathlib.Core.Path.{sym, ap, _∙_}
 use Rattle.rules.specs.Message as M
 use Rattle.bidi_write.specs.View.{breakOf, detailOf}
 use Rattle.bidi_write.specs.declared.Break.{Break}

@@ -1,9 +1,8 @@
 -- `trace::input::shift` is safe and ends: what is left is the bytes not yet moved.
 -- Assumes nothing.
-use mathlib.Core.Path.{_≡_, _∙_}
+use mathlib.Core.Path.{_≡_}
 use Prim.Native.Nat.{_-_, _≤_}
-use native.Mathlib.Omega.{arith}
-use lib.ListN.{length, length-set}
+use lib.ListN.{length}
 use borrow.Author.Needs.{needs}
 use Rattle.trace.proofs.input.shift.Statement.{statement}
 use Rattle.trace.proofs.input.shift.Tie as tie

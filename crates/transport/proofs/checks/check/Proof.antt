@@ -1,10 +1,7 @@
 -- `transport::checks::check` meets its contract: at each return, the tests that led there.
-use mathlib.Core.Path.{_≡_}
 use Rattle.transport.specs.Check.{checked}
 use Rattle.transport.proofs.checks.check.Statement.{statement}
 use Rattle.transport.proofs.checks.check.Tie as tie
-use Rattle.transport.proofs.checks.check.Reads as reads
-use Rattle.transport.proofs.checks.check.Lts as lts
 
 returns : tie.Need-returns
 unfolding checked

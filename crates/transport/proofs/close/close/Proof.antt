@@ -1,36 +1,25 @@
 -- `transport::close::close` meets its contract: a law of `Closing` at each return.
-use mathlib.Core.Path.{_≡_, sym, ap, _∙_, subst}
+use mathlib.Core.Path.{sym, _∙_}
 use borrow.Author.Needs.{needs}
 use Rattle.transport.proofs.Closing.{close-refuses, close-accepts}
 use Rattle.transport.proofs.close.close.Statement.{statement}
 use Rattle.transport.proofs.close.close.Tie as tie
-use Rattle.transport.proofs.close.close.Reads as reads
-use Rattle.transport.proofs.close.close.Lts as lts
-use Rattle.transport.proofs.checks.check.Reads as check-reads
-use Rattle.transport.proofs.phases.phase_number.Reads as phase-number-reads
-use Rattle.transport.proofs.parts.set_phase.Reads as set-phase-reads
 
--- src/close.rt:20:9
 phase-number-requires : tie.Need-phase-number-requires
 phase-number-requires c κs = search needs
 
--- src/close.rt:23:9
 check-requires : tie.Need-check-requires
 check-requires c κs = search needs
 
--- src/close.rt:25:23
 enum-known-way : tie.Need-enum-known-way
 enum-known-way c = search needs
 
--- src/close.rt:30:34
 enum-told : tie.Need-enum-told
 enum-told c = search needs
 
--- src/close.rt:30:17
 set-phase-requires : tie.Need-set-phase-requires
 set-phase-requires c κs = search needs
 
--- src/close.rt:16:1
 returns : tie.Need-returns
 returns c =
     λ store table.
@@ -38,7 +27,6 @@ returns c =
     close-refuses (before .before .args .s) store table (before .phase-number .result) (before .phase-number .ensures) _
     (sym (c .before .before .before .check .ensures) ∙ c .before .way .given .1)
 
--- src/close.rt:16:1
 returns-2 : tie.Need-returns-2
 returns-2 c =
     λ store table.
