@@ -4,7 +4,7 @@ use mathlib.Core.Path.{_≡_, refl, sym, ap, ap₂, _∙_}
 use mathlib.Core.Bool.{Bool, true, false, not, xor}
 use mathlib.Core.List.{List, [], _∷_, _++_, map, append-nil, append-assoc}
 use Prim.Native.Nat.{ℕ, zero, suc, _*_, _/_, _%_, _^_, _<_}
-use native.Mathlib.Nat.{div-add-mod', mul-div-cancel, mul-mod-left, zero-lt-suc}
+use native.Mathlib.Nat.{div-add-mod'}
 use native.Mathlib.Omega.{arith}
 use lib.Dec.{lit<}
 use lib.Arith.{lt-one}
@@ -15,7 +15,7 @@ use Rattle.crc32c.specs.Reg.{poly, step, steps, feed, reg, ones32, crcOf
 use Rattle.crc32c.specs.Poly.{_⊕_, none, times, product, nonzero, odd, lowFirst, message, below, coefficients, Crc}
 use Rattle.crc32c.proofs.Xor.{odd-lt, xor-half, xor-odd, digit-ind, half-lt-pow}
 use Rattle.crc32c.proofs.Xor as nat
-use Rattle.crc32c.proofs.Linear.{step-xor, step-lt}
+use Rattle.crc32c.proofs.Linear.{step-xor, step-lt, step-double}
 use Rattle.crc32c.proofs.Bound.{crc-lt}
 use Rattle.crc32c.proofs.Sum as sum
 
@@ -162,12 +162,6 @@ divides (b ∷ m) r h =
     ap₂ _∷_ head tail ∙ ap (λ (l : List Bool). (l ⊕ (false ∷ product below q)) ⊕ (false ∷ R)) (sym front)
 
 -- ---- the register over bytes is the register over their digits
-
-step-double : (v : ℕ) → step (v * 2) ≡ v
-unfolding step
-step-double v =
-    ap₂ (λ (x y : ℕ). bitXor x (y * poly)) (mul-div-cancel v (zero-lt-suc 1)) (mul-mod-left v 2)
-    ∙ xor-zero-r v
 
 -- a number as its lowest digit and the rest
 parts : (r b : ℕ) → bitXor r b ≡ bitXor (bitXor r (b % 2)) (b / 2 * 2)

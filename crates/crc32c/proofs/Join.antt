@@ -13,12 +13,12 @@ feed-xor : (r s b : ℕ) → feed (bitXor r s) b ≡ bitXor (feed r b) (steps 8 
 unfolding feed
 feed-xor r s b = ap (steps 8) (xor-swap r s b) ∙ steps-xor 8 (bitXor r b) s
 
-reg-xor : (r s : ℕ) (bs : List ℕ) → reg (bitXor r s) bs ≡ bitXor (reg r bs) (zeros (length bs) s)
+pub reg-xor : (r s : ℕ) (bs : List ℕ) → reg (bitXor r s) bs ≡ bitXor (reg r bs) (zeros (length bs) s)
 unfolding reg zeros
 reg-xor r s [] = refl
 reg-xor r s (b ∷ bs) = ap (λ (x : ℕ). reg x bs) (feed-xor r s b) ∙ reg-xor (feed r b) (steps 8 s) bs
 
-reg-append : (r : ℕ) (a b : List ℕ) → reg r (a ++ b) ≡ reg (reg r a) b
+pub reg-append : (r : ℕ) (a b : List ℕ) → reg r (a ++ b) ≡ reg (reg r a) b
 unfolding reg
 reg-append r [] b = refl
 reg-append r (x ∷ a) b = reg-append (feed r x) a b

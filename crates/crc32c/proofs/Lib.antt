@@ -7,6 +7,7 @@ pub mod Join
 pub mod Bound
 pub mod Operator
 pub mod Filled
+pub mod Slicing
 pub mod Sum
 pub mod Division
 pub mod Unique

@@ -2,8 +2,9 @@
 -- Assumes nothing.
 use mathlib.Core.Path.{_≡_, refl, ap, ap₂, _∙_}
 use Prim.Native.Nat.{ℕ, zero, suc, _*_, _/_, _%_, _^_, _<_}
+use native.Mathlib.Nat.{mul-div-cancel, mul-mod-left, zero-lt-suc}
 use native.Mathlib.Omega.{arith}
-use lib.Bits.{bitXor, xor-lt}
+use lib.Bits.{bitXor, xor-lt, xor-zero-r}
 use lib.Dec.{lit<}
 use Rattle.crc32c.specs.Reg.{poly, step, steps}
 use Rattle.crc32c.proofs.Xor.{odd-lt, xor-half, xor-odd, xor4, differ-mul, digit-ind}
@@ -24,6 +25,13 @@ steps-xor (suc n) a b = ap (steps n) (step-xor a b) ∙ steps-xor n (step a) (st
 pub steps-none : steps 8 0 ≡ 0
 unfolding steps step
 steps-none = refl
+
+-- an even register is only shifted
+pub step-double : (v : ℕ) → step (v * 2) ≡ v
+unfolding step
+step-double v =
+    ap₂ (λ (x y : ℕ). bitXor x (y * poly)) (mul-div-cancel v (zero-lt-suc 1)) (mul-mod-left v 2)
+    ∙ xor-zero-r v
 
 -- a register stays within 32 digits
 pub step-lt : (r : ℕ) → r < 2 ^ 32 → step r < 2 ^ 32

@@ -3,3 +3,4 @@ pub mod Bytes
 pub mod Poly
 pub mod Reg
 pub mod Matrix
+pub mod Table

@@ -1,65 +1,53 @@
--- `crc32c::run` meets its contract: the bytes passed have gone through the register.
--- Assumes nothing.
-use mathlib.Core.Path.{_≡_, refl, sym, ap, _∙_}
-use Prim.Native.Nat.{ℕ, _+_, _-_, _≤_, _<_}
+-- `crc32c::run` meets its contract: the bytes that go by eights, and then the rest.
+use mathlib.Core.Path.{sym, ap, ap₂, _∙_}
+use Prim.Native.Nat.{ℕ, _*_, _/_, _-_, _≤_}
 use native.Mathlib.Omega.{arith}
-use native.Mathlib.Numerals.{add-one}
-use lib.ListN.{length, drop, drop-of-length-le}
-use lib.Seq.{drop-cons}
+use lib.ListN.{length, length-drop, take, drop, take-append-drop}
+use lib.Seq.{take-all}
 use borrow.Author.Needs.{needs}
 use Rattle.crc32c.specs.Reg.{reg}
+use Rattle.crc32c.proofs.Join.{reg-append}
 use Rattle.crc32c.proofs.run.Statement.{statement}
 use Rattle.crc32c.proofs.run.Tie as tie
 
-abbrev Inv-loop : tie.InvT-loop
-Inv-loop start bytes crc₀ i₀ crc i = (i ≤ length bytes) × (reg crc (drop i bytes) ≡ reg start bytes)
+whole-eights-requires : tie.Need-whole-eights-requires
+whole-eights-requires c κs = search needs
 
-abbrev μ-loop : tie.MeasureT-loop
-μ-loop start bytes crc₀ i₀ crc i = length bytes - i
+mul-k : tie.Need-mul-k
+mul-k c = search needs
 
-loop-holds : tie.Need-loop-holds Inv-loop μ-loop
-loop-holds c = (search needs, refl)
+sub-bytewise : tie.Need-sub-bytewise
+sub-bytewise c = search needs
 
-shared-slice-read-byte-step : tie.Need-shared-slice-read-byte-step Inv-loop μ-loop
-shared-slice-read-byte-step c = search needs
+part-bytewise-start : tie.Need-part-bytewise-start
+part-bytewise-start c = search needs
 
-byte-step-requires : tie.Need-byte-step-requires Inv-loop μ-loop
-byte-step-requires c κs = search needs
+part-bytewise-end : tie.Need-part-bytewise-end
+part-bytewise-end c = search needs
 
-add-i : tie.Need-add-i Inv-loop μ-loop
-add-i c = search needs
+bytewise-requires : tie.Need-bytewise-requires
+bytewise-requires c κs = search needs
 
-loop-less : tie.Need-loop-less Inv-loop μ-loop
-loop-less c = search needs
-
-loop-again : tie.Need-loop-again Inv-loop μ-loop
-unfolding reg
-loop-again c =
-    let l = c .before .before .before .before .before .args .bytes .now in
-    let i : ℕ = c .before .before .before .loop .i in
-    let h : i < length l = omega arith in (
-      search needs,
-      ap (λ (r : ℕ). reg r (drop (i + 1) l)) (c .byte-step .ensures)
-          ∙ rw add-one (sym (ap (reg (c .before .before .before .loop .crc)) (drop-cons l i 0 h)) ∙ c .before .before .before .loop .inv .1),
-    )
-
-returns : tie.Need-returns Inv-loop μ-loop
-unfolding reg
+returns : tie.Need-returns
 returns c =
-    let l = c .before .before .before .args .bytes .now in
-    let h : length l ≤ c .before .loop .i = omega arith in
-    sym (ap (reg (c .before .loop .crc)) (drop-of-length-le l h)) ∙ c .before .loop .inv .1
+    let s = c .before .before .before .before in
+    let a = s .args in
+    let l = a .bytes .now in
+    let k : ℕ = length l / 8 * 8 in
+    let h : length (drop k l) ≤ length l - k = omega (arith, length-drop k l) in
+    c .bytewise .ensures
+    ∙ ap₂ reg (c .before .before .whole-eights .ensures) (take-all (length l - k) (drop k l) h)
+    ∙ sym (reg-append (a .start) (take k l) (drop k l))
+    ∙ ap (reg (a .start)) (take-append-drop k l)
 
 pub run-spec : {M : Type 1} → statement M
 run-spec =
     tie.close
     (tie.spec
-    Inv-loop
-    μ-loop
-    loop-holds
-    shared-slice-read-byte-step
-    byte-step-requires
-    add-i
-    loop-less
-    loop-again
+    whole-eights-requires
+    mul-k
+    sub-bytewise
+    part-bytewise-start
+    part-bytewise-end
+    bytewise-requires
     returns)
