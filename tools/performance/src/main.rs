@@ -1,0 +1,148 @@
+//! performance: the same uploads through the crate's own buffers and through the session as a static library, in one run. Prints the tables of
+//! docs/PERFORMANCE.md.
+mod google;
+mod memory;
+mod ours;
+mod theirs;
+
+use bytes::Bytes;
+use std::hint::black_box;
+use std::time::Instant;
+
+#[global_allocator]
+static MEMORY: memory::Counting = memory::Counting;
+
+const MIB: usize = 1 << 20;
+const WARM_UP: usize = 3;
+const ROUNDS: usize = 25;
+
+/// An upload: appends of `piece` bytes, a flush after each or none, finalise.
+pub struct Upload {
+    name: &'static str,
+    bytes: usize,
+    piece: usize,
+    flush: bool,
+}
+
+/// Nanoseconds of the fastest round of each: a round of one follows a round of the other. What else the machine does only adds to a round.
+fn side_by_side(mut theirs: impl FnMut(), mut ours: impl FnMut()) -> (f64, f64) {
+    for _ in 0..WARM_UP {
+        theirs();
+        ours();
+    }
+    let rounds = (0..ROUNDS).map(|_| (nanoseconds(&mut theirs), nanoseconds(&mut ours)));
+    rounds.fold((f64::MAX, f64::MAX), |least, round| (least.0.min(round.0), least.1.min(round.1)))
+}
+
+fn nanoseconds(f: &mut impl FnMut()) -> f64 {
+    let from = Instant::now();
+    f();
+    from.elapsed().as_nanos() as f64
+}
+
+/// A journal whose bytes are no pattern.
+fn journal(n: usize) -> Bytes {
+    let mut x = 88172645463325252u64;
+    let next = || {
+        x ^= x << 13;
+        x ^= x >> 7;
+        x ^= x << 17;
+        x as u8
+    };
+    std::iter::repeat_with(next).take(n).collect::<Vec<u8>>().into()
+}
+
+fn upload_row(u: &Upload, data: &Bytes, sizes: &ours::Sizes) {
+    let data = data.slice(..u.bytes);
+    let mut session = ours::Memory::new(sizes);
+    let ns = side_by_side(|| assert_eq!(theirs::upload(u, &data), u.bytes), || assert_eq!(ours::upload(u, &data, sizes, &mut session), u.bytes));
+    session.check(u, &data);
+    a_byte(u.name, ns, u.bytes);
+}
+
+fn sum_row(data: &Bytes) {
+    assert_eq!(ours::crc32c(data), crc32c::crc32c(data));
+    let ns = side_by_side(
+        || {
+            black_box(crc32c::crc32c(data));
+        },
+        || {
+            black_box(ours::crc32c(data));
+        },
+    );
+    a_byte("checksum alone, 64 MiB", ns, data.len());
+}
+
+/// What the crate has on a processor with the instruction; x86-64 has it since 2008.
+fn instruction_row(data: &Bytes) {
+    assert_eq!(unsafe { crc32c::by_instruction(data) }, crc32c::crc32c(data));
+    let ns = side_by_side(
+        || {
+            black_box(unsafe { crc32c::by_instruction(data) });
+        },
+        || {
+            black_box(ours::crc32c(data));
+        },
+    );
+    a_byte("checksum alone, by the processor's instruction", ns, data.len());
+}
+
+fn a_byte(name: &str, (theirs, ours): (f64, f64), bytes: usize) {
+    let n = bytes as f64;
+    println!("| {name} | {:.2} | {:.2} | {:.2} |", theirs / n, ours / n, ours / theirs);
+}
+
+fn join_row(name: &str, length: usize) {
+    const JOINS: u32 = 1000;
+    assert_eq!(ours::combine(1, 2, length), crc32c::crc32c_combine(1, 2, length));
+    let (theirs, ours) = side_by_side(
+        || {
+            black_box((0..JOINS).fold(1, |sum, i| crc32c::crc32c_combine(sum, i, length)));
+        },
+        || {
+            black_box((0..JOINS).fold(1, |sum, i| ours::combine(sum, i, length)));
+        },
+    );
+    let n = JOINS as f64;
+    println!("| {name} | {:.0} | {:.0} | {:.2} |", theirs / n, ours / n, ours / theirs);
+}
+
+fn memory_row(u: &Upload, data: &Bytes, sizes: &ours::Sizes) {
+    let data = data.slice(..u.bytes);
+    let peak = memory::peak_of(|| {
+        theirs::upload(u, &data);
+    });
+    let kept = theirs::most_kept(u, &data);
+    let lent = sizes.bytes();
+    println!("| {} | {} | {} | {kept} | {lent} | {:.2} |", u.name, peak.bytes, peak.allocations, lent as f64 / (peak.bytes + kept) as f64);
+}
+
+fn main() {
+    let data = journal(64 * MIB);
+    let day = Upload { name: "a day: 700 × 6,000, a flush each", bytes: 700 * 6000, piece: 6000, flush: true };
+    let long = |name, mib| Upload { name, bytes: mib * MIB, piece: 2 * MIB, flush: false };
+    let growth = [long("1 MiB", 1), long("2 MiB", 2), long("4 MiB", 4), long("8 MiB", 8), long("16 MiB", 16), long("32 MiB", 32), long("64 MiB", 64)];
+
+    println!("| upload | the crate's buffers, ns a byte | the session, ns a byte | ratio |\n|---|---|---|---|");
+    upload_row(&day, &data, &ours::CRATE);
+    for u in &growth {
+        upload_row(u, &data, &ours::CRATE);
+    }
+    sum_row(&data);
+    instruction_row(&data);
+    println!("\n| a join behind | squared matrices, ns | the session, ns | ratio |\n|---|---|---|---|");
+    join_row("6,000 bytes", 6000);
+    join_row("2 MiB", 2 * MIB);
+    println!("\nThe session with a bank's sizes (chunks of 8,192 bytes, capacity 32,768):\n");
+    println!("| upload | the crate's buffers, ns a byte | the session, ns a byte | ratio |\n|---|---|---|---|");
+    upload_row(&day, &data, &ours::BANK);
+    println!(
+        "\n| upload | the crate: allocated at most | allocations | caller's bytes kept at most | the session: lent | ratio |\n|---|---|---|---|---|---|"
+    );
+    memory_row(&day, &data, &ours::CRATE);
+    for u in &growth {
+        memory_row(u, &data, &ours::CRATE);
+    }
+    println!("| with a bank's sizes: | | | | | |");
+    memory_row(&day, &data, &ours::BANK);
+}
