@@ -20,7 +20,7 @@ pub record Shows (s : R.Session) (v : View) : Type 0 where
   pub capacity : v .capacity ≡ s .worker .replayBuffer .capacity
   pub waiters : v .waiters ≡ length (R.waiters s)
 
--- of any other record they are the numbers in it
+-- of a record that no call left nothing is said
 abbrev pub Shown : Session → View → Type 0
 Shown s v = (store : Bytes) (table : List ℕ) → Valid s store table → Shows (view s store table) v
 
