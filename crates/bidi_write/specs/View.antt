@@ -24,6 +24,8 @@ use Rattle.bidi_write.specs.declared.Detail.{Detail}
 use Rattle.bidi_write.specs.declared.Detail.the-variants as detail
 use Rattle.bidi_write.specs.declared.Break.{Break}
 use Rattle.bidi_write.specs.declared.Break.the-variants as stream
+use Rattle.bidi_write.specs.declared.Call.{Call}
+use Rattle.bidi_write.specs.declared.Call.the-variants as call
 use Rattle.bidi_write.specs.declared.Cause.{Cause}
 use Rattle.bidi_write.specs.declared.Cause.the-variants as cause
 use Rattle.bidi_write.specs.declared.Size.{Size}
@@ -96,3 +98,17 @@ causeOf cause.Permanent = S.permanent
 causeOf cause.Exhausted = S.exhausted
 causeOf cause.GivenUp = S.givenUp
 causeOf cause.StreamError = S.streamError
+
+-- a call with the bytes beside it, and the length of the out buffer that it is lent
+abbrev pub callOf : Call → (bytes token handle : M.Bytes) → ℕ → S.Call
+callOf call.Append bytes token handle out = S.append bytes out
+callOf call.Flush bytes token handle out = S.flush out
+callOf call.Finalise bytes token handle out = S.finalise out
+callOf call.NextRequest bytes token handle out = S.nextRequest out
+callOf call.Close bytes token handle out = S.close
+callOf call.SendFailed bytes token handle out = S.sendFailed
+callOf (call.Response m) bytes token handle out = S.response (responseOf m handle)
+callOf (call.Handshake m) bytes token handle out = S.handshake (responseOf m handle)
+callOf (call.Break b) bytes token handle out = S.break (breakOf b token handle)
+callOf (call.Judge v) bytes token handle out = S.judge v
+callOf (call.FailedAttempt b v) bytes token handle out = S.failedAttempt (breakOf b token handle) v

@@ -1,16 +1,24 @@
 // Ported from google-cloud-storage 1.21.0, src/storage/bidi_write.rs (Apache-2.0); changed: no tasks, channels or heap.
-// The messages that a session sends and is told. Bytes stand beside a record: a request's data at the front of the out buffer, a handle or a token in a slice.
+// The messages that a session sends and is told, its calls, and why it refuses one. Bytes stand beside a record: a request's data at the front of the out buffer,
+// what a call brings in slices.
 ghost use mathlib.Core.Path.{_≡_};
+ghost use mathlib.Core.Bool.{_&&_, _||_};
 ghost use Prim.Native.Nat.{_<_, _^_};
 ghost use lib.IntN.{pos};
 ghost use lib.Signed.{ltZ};
 ghost use Rattle.bidi_write.specs.Numbers.{toℕ};
+ghost use Rattle.bidi_write.specs.Refusal.{numberOf, rowed};
 ghost use Rattle.bidi_write.specs.View.{sizeOf, statusOf};
 ghost use Rattle.rules.specs.Message.{isFinalized};
 ghost use Rattle.rules.specs.Message as M;
 
 // Maximum payload chunk size for a single write request (2 MiB).
 pub const MAX_WRITE_CHUNK_SIZE: usize = 2 * 1024 * 1024;
+
+// The most that a capacity may be asked for (1 GiB), and what an opening has that names none (32 MiB).
+pub const MAX_CAPACITY: usize = 1024 * 1024 * 1024;
+
+pub const DEFAULT_CAPACITY: usize = 32 * 1024 * 1024;
 
 // An offset in the object, or a size of it.
 pub struct Offset(pub i64);
@@ -108,6 +116,44 @@ pub enum Size {
     Stated(Offset),
 }
 
+// A call after opening. An append's data, a redirect's token and handle and a response's handle come beside it.
+pub enum Call {
+    Append,
+    Flush,
+    Finalise,
+    NextRequest,
+    Close,
+    SendFailed,
+    Response(Response),
+    Handshake(Response),
+    Break(Break),
+    Judge(u8),
+    FailedAttempt(Break, u8),
+}
+
+// Why a call was refused: document 01's numbers 1 to 13, in their order.
+pub enum Refusal {
+    Limits,
+    ShortMemory,
+    BadBucket,
+    TooLong,
+    Finalized,
+    WrongPhase,
+    Ended,
+    Full,
+    NoRoom,
+    PastEnd,
+    ShortOut,
+    Closed,
+    BadVerdict,
+}
+
+// Whether a call goes on.
+pub enum Check {
+    Go,
+    Refuse(Refusal),
+}
+
 // The acknowledged byte count that a response states.
 pub fn persisted_size(s: WriteStatus) -> Size
     ensures { λ r. ⌜ sizeOf r ≡ M.sizeOf (statusOf s) ⌝ }
@@ -162,4 +208,57 @@ pub fn from_nat(n: u64) -> Offset
     ensures { λ r. ⌜ r ≡ record { 0 = pos n } ⌝ }
 {
     Offset(n as i64)
+}
+
+// ---- refusals
+
+// Document 01's number of a refusal.
+pub fn refusal_number(x: Refusal) -> u64
+    ensures { λ r. ⌜ r ≡ numberOf x ⌝ }
+{
+    match x {
+        Refusal::Limits => 1,
+        Refusal::ShortMemory => 2,
+        Refusal::BadBucket => 3,
+        Refusal::TooLong => 4,
+        Refusal::Finalized => 5,
+        Refusal::WrongPhase => 6,
+        Refusal::Ended => 7,
+        Refusal::Full => 8,
+        Refusal::NoRoom => 9,
+        Refusal::PastEnd => 10,
+        Refusal::ShortOut => 11,
+        Refusal::Closed => 12,
+        Refusal::BadVerdict => 13,
+    }
+}
+
+impl Check {
+    // A row of a call's tests, in the paper's order: the first whose test holds refuses.
+    pub fn row(self, test: bool, x: Refusal) -> Check
+        ensures { λ r. ⌜ r ≡ rowed self test x ⌝ }
+    {
+        match self {
+            Check::Go => {
+                if test {
+                    return Check::Refuse(x);
+                }
+                Check::Go
+            }
+            Check::Refuse(y) => Check::Refuse(y),
+        }
+    }
+}
+
+// Two tests, of which the second may apply only with the first.
+pub fn both(a: bool, b: bool) -> bool
+    ensures { λ r. ⌜ r ≡ (a && b) ⌝ }
+{
+    a && b
+}
+
+pub fn either(a: bool, b: bool) -> bool
+    ensures { λ r. ⌜ r ≡ (a || b) ⌝ }
+{
+    a || b
 }

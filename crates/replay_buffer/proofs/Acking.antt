@@ -14,9 +14,10 @@ use Rattle.crc32c.specs.Reg.{crcOf}
 use Rattle.rules.specs.Message.{Bytes}
 use Rattle.rules.specs.Respond.{ack}
 use Rattle.ring.specs.Ring.{ring, part, Within, Written}
-use Rattle.ring.specs.Word.{packed, lenOf}
+use Rattle.replay_buffer.specs.Word.{packed, lenOf}
 use Rattle.ring.proofs.Laws.{take-part}
-use Rattle.ring.proofs.Words.{len-packed, front-put}
+use Rattle.ring.proofs.Put.{front-put}
+use Rattle.replay_buffer.proofs.Words.{len-packed}
 use Rattle.replay_buffer.specs.View.{Lent, chunksOf, total, wordsOf, storedOf, queueOf, Fits, Sound}
 use Rattle.replay_buffer.specs.Ack.{Acks, Trims, Stored, advanced, frontOf, Above}
 use Rattle.replay_buffer.specs.declared.ReplayBuffer.{ReplayBuffer}

@@ -6,9 +6,10 @@ use Prim.Native.Nat.{ℕ, _+_, _-_, _<_, _≤_, _^_}
 use native.Mathlib.Omega.{arith}
 use lib.ListN.{length}
 use Rattle.ring.specs.Ring.{part, Within, Written}
-use Rattle.ring.specs.Word.{packed, lenOf}
+use Rattle.replay_buffer.specs.Word.{packed, lenOf}
 use Rattle.ring.proofs.Laws.{take-part, part-add, length-part}
-use Rattle.ring.proofs.Words as Words
+use Rattle.ring.proofs.Put as Put
+use Rattle.replay_buffer.proofs.Words as Words
 use Rattle.replay_buffer.specs.View.{lent, total, wordsOf, queueOf}
 use Rattle.replay_buffer.specs.Push.{Room, Pushes, pushed}
 use Rattle.replay_buffer.specs.declared.ReplayBuffer.{ReplayBuffer}
@@ -20,7 +21,7 @@ module _ (slots : ℕ) (b : ReplayBuffer) (table : List ℕ) (n sum : ℕ) (tabl
   words =
       let within : Within (length table) slots (b .first) (b .chunks) 1 =
       record { room = room .table-lent; starts = omega (arith, room); ends = omega (arith, room) } in
-      Words.pushed slots (b .first) (b .chunks) (packed n sum) table table′ within put (b .chunks) refl
+      Put.pushed slots (b .first) (b .chunks) (packed n sum) table table′ within put (b .chunks) refl
 
   small : n < 2 ^ 32
   small = omega (arith, room)

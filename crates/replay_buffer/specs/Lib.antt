@@ -1,4 +1,5 @@
 -- What the contracts of the replay buffer cite.
+pub mod Word
 pub mod View
 pub mod Push
 pub mod Ack

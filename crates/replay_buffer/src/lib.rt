@@ -5,10 +5,14 @@ ghost use Prim.Native.Nat.{_<_, _≤_, _^_};
 ghost use lib.Dec.{leb};
 ghost use lib.ListN.{length};
 ghost use Rattle.ring.specs.Ring.{part, Within};
+ghost use Rattle.rules.specs.Limits.{maxChunk, maxCapacity, storeSize};
+ghost use Rattle.replay_buffer.specs.Word.{packed, lenOf, sumOf};
 ghost use Rattle.replay_buffer.specs.View.{lent, Fits};
 ghost use Rattle.replay_buffer.specs.Push.{Room, Pushes};
 ghost use Rattle.replay_buffer.specs.Ack.{Acks, Stored, Trims, frontOf, advanced};
 ghost use Rattle.replay_buffer.specs.Replay.{Replays};
+use bidi_write::MAX_CAPACITY;
+use bidi_write::MAX_WRITE_CHUNK_SIZE;
 use bidi_write::Offset;
 
 // Chunks lie end to end and end at the write offset, so their offsets are not kept.
@@ -35,6 +39,46 @@ struct Front {
     bytes: usize,
 }
 
+// "capacity + 2 × C − 2": the bytes of the store that keep stored and held ones. 0 for numbers that no opening admits.
+pub fn ring_size(capacity: usize, limit: usize) -> usize
+    ensures { λ r. ⌜ (capacity ≤ maxCapacity → limit ≤ maxChunk → r ≡ storeSize capacity limit) ⌝ }
+{
+    if MAX_CAPACITY < capacity {
+        return 0;
+    }
+    if MAX_WRITE_CHUNK_SIZE < limit {
+        return 0;
+    }
+    let sum = capacity + 2 * limit;
+    if sum < 2 {
+        return 0;
+    }
+    sum - 2
+}
+
+// ---- the words of the table
+
+// A table word: a chunk's length in the low 32 bits, its CRC32C in the high 32 bits.
+pub fn pack(len: u32, sum: u32) -> u64
+    ensures { λ r. ⌜ r ≡ packed len sum ⌝ }
+{
+    (sum as u64) * 0x1_0000_0000 + (len as u64)
+}
+
+pub fn len_of(w: u64) -> u32
+    ensures { λ r. ⌜ r ≡ lenOf w ⌝ }
+{
+    (w % 0x1_0000_0000) as u32
+}
+
+pub fn sum_of(w: u64) -> u32
+    ensures { λ r. ⌜ r ≡ sumOf w ⌝ }
+{
+    (w / 0x1_0000_0000) as u32
+}
+
+// ---- the buffer
+
 // Enqueues a chunk, whose bytes stand behind the stored ones already.
 pub fn push(
     b: ReplayBuffer,
@@ -48,7 +92,7 @@ pub fn push(
 {
     let first = b.first;
     let chunks = b.chunks;
-    let word = ring::pack(length as u32, crc32c);
+    let word = pack(length as u32, crc32c);
     ring::put_word(table, slots, first, chunks, word);
     ReplayBuffer {
         capacity: b.capacity,
@@ -105,7 +149,7 @@ fn acknowledged(
     let mut bytes: usize = 0;
     let mut at: u64 = start;
     while i < chunks {
-        let len = ring::len_of(ring::word_at(table, slots, first, i));
+        let len = len_of(ring::word_at(table, slots, first, i));
         let end = at + len as u64;
         if p < end {
             break;
@@ -157,7 +201,7 @@ fn trim(
         return b;
     }
     let trimmed = p - start;
-    let len = ring::len_of(ring::word_at(table, slots, first, 0)) as usize;
+    let len = len_of(ring::word_at(table, slots, first, 0)) as usize;
     // no table that pushes and acknowledgements leave
     if len as u64 <= trimmed {
         return b;
@@ -171,7 +215,7 @@ fn trim(
     let head = rest.head;
     let first = rest.first;
     let sum = ring::sum_at(store, size, head, 0, len - bytes);
-    let word = ring::pack((len - bytes) as u32, sum);
+    let word = pack((len - bytes) as u32, sum);
     ring::put_word(table, slots, first, 0, word);
     rest
 }
@@ -205,7 +249,7 @@ pub fn chunk_to_replay(
         return no_chunk();
     }
     let word = ring::word_at(table, slots, first, next);
-    let length = ring::len_of(word) as usize;
+    let length = len_of(word) as usize;
     if out.len() < length {
         return no_chunk();
     }
@@ -219,7 +263,7 @@ pub fn chunk_to_replay(
     Chunk {
         write_offset: bidi_write::from_nat(end - b.unpersisted_bytes as u64 + at as u64),
         length,
-        crc32c: ring::sum_of(word),
+        crc32c: sum_of(word),
     }
 }
 

@@ -4,7 +4,6 @@ use mathlib.Core.Path.{_≡_, refl}
 use mathlib.Core.List.{List, [], _∷_}
 use Prim.Native.Nat.{ℕ}
 use Rattle.ring.specs.Ring.{wrapped, rot, part}
-use Rattle.ring.specs.Word.{packed}
 
 lent : List ℕ
 lent = 10 ∷ 11 ∷ 12 ∷ 13 ∷ 14 ∷ 15 ∷ []
@@ -22,6 +21,3 @@ round-the-end = refl
 moved-on : part 4 (wrapped 4 4) 0 2 lent ≡ 10 ∷ 11 ∷ []
 unfolding part rot lent
 moved-on = refl
-
-word : packed 5 0xE306_9283 ≡ 0xE306_9283_0000_0005
-word = refl

@@ -1,7 +1,7 @@
--- The laws, for this crate's proofs and for those of its callers (`Laws`, `Words`).
+-- The laws, for this crate's proofs and for those of its callers (`Laws`, `Put`).
 pub mod Paste
 pub mod Rot
 pub mod Laws
-pub mod Words
+pub mod Put
 pub mod Runs
 pub mod Examples

@@ -1,3 +1,2 @@
 -- What the contracts of the ring cite.
 pub mod Ring
-pub mod Word

@@ -1,4 +1,4 @@
-// A ring over the first `size` elements of a lent slice, and the words of the chunk table.
+// A ring over the first `size` elements of a lent slice.
 //
 // A range of the ring is at most two straight runs: it is split once, where it meets the ring's end.
 ghost use mathlib.Core.Path.{_≡_};
@@ -7,26 +7,6 @@ ghost use Prim.Native.Nat.{_+_, _≤_, min};
 ghost use lib.ListN.{length, take, drop, getD};
 ghost use Rattle.crc32c.specs.Reg.{crcOf};
 ghost use Rattle.ring.specs.Ring.{wrapped, ring, part, Within, Written};
-ghost use Rattle.ring.specs.Word.{packed, lenOf, sumOf};
-
-// A table word: a chunk's length in the low 32 bits, its CRC32C in the high 32 bits.
-pub fn pack(len: u32, sum: u32) -> u64
-    ensures { λ r. ⌜ r ≡ packed len sum ⌝ }
-{
-    (sum as u64) * 0x1_0000_0000 + (len as u64)
-}
-
-pub fn len_of(w: u64) -> u32
-    ensures { λ r. ⌜ r ≡ lenOf w ⌝ }
-{
-    (w % 0x1_0000_0000) as u32
-}
-
-pub fn sum_of(w: u64) -> u32
-    ensures { λ r. ⌜ r ≡ sumOf w ⌝ }
-{
-    (w / 0x1_0000_0000) as u32
-}
 
 // The index in a ring of n of the place that is `at` steps past its first, for at below 2 n. A test and a difference: no division.
 pub fn wrap(at: usize, n: usize) -> usize

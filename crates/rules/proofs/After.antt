@@ -10,7 +10,8 @@ use Rattle.rules.specs.Session.{PendingKind, Phase, live, closing, conne
 use Rattle.rules.specs.Server.{loses}
 use Rattle.rules.specs.Notes.{accepted, requestIn, noteAppend, noteAsk, noteOther}
 use Rattle.rules.specs.World.{World, sending}
-use Rattle.rules.proofs.Lists.{cond-ind, never, or-no-right}
+use Rattle.rules.proofs.Tests.{never, or-no-right}
+use Rattle.rules.proofs.Lists.{cond-ind}
 use Rattle.rules.proofs.Inv.{isRegressed, Inv}
 
 abbrev pub afterAppend : Bytes → Bool → World → Result → World

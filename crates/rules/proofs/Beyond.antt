@@ -7,7 +7,8 @@ use lib.Seq.{take-at, drop-at}
 use Rattle.rules.specs.Message.{Bytes, ChecksummedData, Request}
 use Rattle.rules.specs.World.{World, runs, start}
 use Rattle.rules.specs.Beyond.{RightChunk, RightFinish, RightRequest, HoldsBeyond, BeyondDemand3}
-use Rattle.rules.proofs.Lists.{clash, all-map, Slice, slice-grow}
+use Rattle.rules.proofs.Tests.{clash}
+use Rattle.rules.proofs.Lists.{all-map, Slice, slice-grow}
 use Rattle.rules.proofs.Inv.{Right, isRegressed, Inv}
 use Rattle.rules.proofs.Keeps.{runs-keep}
 use Rattle.rules.proofs.Start.{start-inv}

@@ -18,12 +18,9 @@ use Rattle.rules.specs.Replay.{handsWaiter, handsChunk, hands, unsent}
 use Rattle.rules.specs.Step.{step}
 use Rattle.rules.specs.Opening.{Opening, capacityOf, openSize, payloadLength, openChunks, openSession}
 use Rattle.rules.specs.Total.{afterCalls, StoredBound}
+use Rattle.rules.proofs.Tests.{and-no}
 use Rattle.rules.proofs.Lists.{cond-ind, choose-ind, unless-ind, bytes-snoc}
 use Rattle.rules.proofs.Accepted.{Accepted, accepted}
-
--- a test that only holds beside t
-pub beside : (t u : Bool) → t ≡ true → (t && u) ≡ false → u ≡ false
-beside t u e f = rw e at f
 
 -- ---- an acknowledgement leaves no more bytes
 
@@ -78,7 +75,7 @@ module _ (capacity limit : ℕ) where
       let m : length (s .held) < limit = h .small in
       let l : length (holding d s) ≤ limit = omega (arith, length-append (s .held) (take (room d s) d), length-take (room d s) d) in
       unless-ind Fitting s _ _ (λ n. record { fits = h })
-      (λ t. choose-ind Fitting _ _ _ (λ f. record { fits = cut-fits (holding d s) s h (beside _ _ f (t .1 .1 .1 .1 .0)) l })
+      (λ t. choose-ind Fitting _ _ _ (λ f. record { fits = cut-fits (holding d s) s h (and-no f (t .1 .1 .1 .1 .0)) l })
       (λ f. record {
         fits = record {
           limit-is = e;

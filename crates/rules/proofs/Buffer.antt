@@ -16,7 +16,8 @@ use Rattle.rules.specs.Session.{ReplayChunk, Phase, isReplay}
 use Rattle.rules.specs.Upload.{joinedSum}
 use Rattle.rules.specs.Respond.{ack}
 use Rattle.rules.specs.Opening.{larger}
-use Rattle.rules.proofs.Lists.{clash, Chain, chain-snoc, bytes-snoc, Acked, ack-chain}
+use Rattle.rules.proofs.Tests.{clash}
+use Rattle.rules.proofs.Lists.{Chain, chain-snoc, bytes-snoc, Acked, ack-chain}
 use Rattle.rules.proofs.Inv.{Stock, Tally, BufferOK, ReplayOK}
 
 -- ---- a chunk is cut

@@ -4,6 +4,7 @@ use mathlib.Core.Bool.{Bool, false, cond, _&&_, _||_}
 use mathlib.Core.Option.{Option, none, some}
 use Prim.Native.Nat.{ℕ}
 use lib.Dec.{ltb, eqb}
+use Rattle.rules.specs.Limits.{maxRedirects}
 use Rattle.rules.specs.Message.{Break, redirectIn, isRedirect, isEnd}
 use Rattle.rules.specs.Session.{Connector, Cause, finished, streamError, Phase, closing, connecting, verdict, nothing, close, sendFailed, break, judge, failedAttempt, ok, setConnector, setMark, setWorker, setPhase, isReplay, isEnded, ending}
 use Rattle.rules.specs.Upload.{closes}
@@ -92,7 +93,7 @@ Steady (some c) = isRegress c ≡ false
 ruling-steady : (redirect : Bool) (followed v : ℕ) → Steady (ruling redirect followed v)
 ruling-steady redirect followed v =
     cond-ind Steady (eqb v 4) (λ _. refl)
-    (λ _. cond-ind Steady (redirect && ltb followed 3) (λ _. tt)
+    (λ _. cond-ind Steady (redirect && ltb followed maxRedirects) (λ _. tt)
     (λ _. cond-ind Steady (eqb v 2) (λ _. refl)
     (λ _. cond-ind Steady (redirect || eqb v 3) (λ _. refl) (λ _. tt))))
 

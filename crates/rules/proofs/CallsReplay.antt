@@ -17,7 +17,8 @@ use Rattle.rules.specs.Replay.{place, handsWaiter, handsChunk, hands}
 use Rattle.rules.specs.Step.{step}
 use Rattle.rules.specs.Notes.{contentOf}
 use Rattle.rules.specs.World.{World, calls}
-use Rattle.rules.proofs.Lists.{choose-ind, unless-ind, never, opt-ind, all-get, Part, parts, take-some, take-none, take-none-suc, chain-place}
+use Rattle.rules.proofs.Tests.{never}
+use Rattle.rules.proofs.Lists.{choose-ind, unless-ind, opt-ind, all-get, Part, parts, take-some, take-none, take-none-suc, chain-place}
 use Rattle.rules.proofs.Inv.{Right, Asked, Fit, goalAt, Inv}
 use Rattle.rules.proofs.Server.{right-bare, right-chunk, handed-none, handed-one, server-sends, sending-final}
 use Rattle.rules.proofs.Flow.{fit-bare, fit-chunk, fit-asked, dataless-adds, flow-done, flow-sends}

@@ -16,7 +16,8 @@ use Rattle.rules.specs.Step.{step}
 use Rattle.rules.specs.Server.{setMessages, connects, Told, alone, inResource, says}
 use Rattle.rules.specs.Notes.{accepted, requestIn, largestOf, noteResponse, noteHandshake}
 use Rattle.rules.specs.World.{World, sending, calls, handsOn}
-use Rattle.rules.proofs.Lists.{cond-ind, choose-ind, unless-ind, never, and-right}
+use Rattle.rules.proofs.Tests.{never, and-right}
+use Rattle.rules.proofs.Lists.{cond-ind, choose-ind, unless-ind}
 use Rattle.rules.proofs.Inv.{AtLeast, least, Ascends, stockOf, BufferOK, WaitOK, ServerOK, FlowOK, HandedOK, isRegressed, Inv}
 use Rattle.rules.proofs.Server.{ascends-le, ascends-tail, right-bare, handed-none, handed-one, server-sends, server-messages, server-connects, sending-final, server-below, server-within}
 use Rattle.rules.proofs.Flow.{fit-bare, dataless-adds, goal-off, flow-off, flow-ended, flow-sends, flow-messages, flow-connects, flow-refused}

@@ -16,7 +16,8 @@ use Rattle.rules.specs.Upload.{chunkOf, cutRequest, cuts, room, holding,
 use Rattle.rules.specs.Step.{step}
 use Rattle.rules.specs.Notes.{Mark, Notes, taken, looseAfter, contentOf}
 use Rattle.rules.specs.World.{World, sending, calls}
-use Rattle.rules.proofs.Lists.{choose-ind, unless-ind, and-no, or-left, nil-of, Part}
+use Rattle.rules.proofs.Tests.{and-no, or-left}
+use Rattle.rules.proofs.Lists.{choose-ind, unless-ind, nil-of, Part}
 use Rattle.rules.proofs.Inv.{Right, Asked, BufferOK, WaitOK, stockOf, tallyOf, Inv}
 use Rattle.rules.proofs.Server.{right-chunk, handed-none, handed-one, handed-grow, handed-sent, server-grow, server-sent, server-sends, sending-final}
 use Rattle.rules.proofs.Flow.{fit-chunk, fit-asked, dataless-adds, goal-off, flow-sends}

@@ -17,7 +17,8 @@ use Rattle.rules.specs.Server.{Server, setRequests, setMessages, loses, 
 use Rattle.rules.specs.Notes.{contentOf}
 use Rattle.rules.specs.World.{sending}
 use Rattle.rules.specs.Beyond.{RightFinish}
-use Rattle.rules.proofs.Lists.{cond-ind, never, clash, and-true}
+use Rattle.rules.proofs.Tests.{never, clash, and-true}
+use Rattle.rules.proofs.Lists.{cond-ind}
 use Rattle.rules.proofs.Inv.{Asked, ServerOK, Fit, Fits, goalAt, FlowOK}
 
 -- ---- requests that fit

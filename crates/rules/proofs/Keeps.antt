@@ -6,7 +6,8 @@ use Prim.Native.Nat.{ℕ}
 use Rattle.rules.specs.Session.{Call, append, flush, finalise, nextRequest, close, sendFailed, response, handshake, break, judge, failedAttempt, chunks}
 use Rattle.rules.specs.Server.{Server, cutOff}
 use Rattle.rules.specs.World.{World, Event, hostCalls, hostHands, hostGreets, serverTakes, serverPersists, serverSays, linkCuts, calls, unprompted, happens, runs}
-use Rattle.rules.proofs.Lists.{cond-ind, never}
+use Rattle.rules.proofs.Tests.{never}
+use Rattle.rules.proofs.Lists.{cond-ind}
 use Rattle.rules.proofs.Inv.{ServerOK, FlowOK, Inv}
 use Rattle.rules.proofs.Server.{says-ascends, server-loses, server-messages, server-cut, server-persists, server-takes, takes-final}
 use Rattle.rules.proofs.Flow.{flow-loses, flow-messages, flow-persists, flow-takes}

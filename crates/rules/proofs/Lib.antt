@@ -1,4 +1,5 @@
 -- The proof of demand 3 and of what is stated beyond it, lowest first; then what holds of the rules by themselves.
+pub mod Tests
 pub mod Lists
 pub mod Inv
 pub mod Server

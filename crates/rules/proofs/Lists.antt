@@ -1,6 +1,6 @@
 -- Laws of tests, lists and chunks that the proofs use.
 use mathlib.Core.Path.{_≡_, refl, sym, ap, _∙_, subst}
-use mathlib.Core.Bool.{Bool, true, false, not, cond, _&&_, _||_, true≢false}
+use mathlib.Core.Bool.{Bool, true, false, not, cond}
 use mathlib.Core.Option.{Option, none, some}
 use mathlib.Core.List.{List, [], _∷_, _++_, append-assoc, append-nil}
 use Prim.Native.Nat.{ℕ, zero, suc, _+_, _-_, _≤_, _<_}
@@ -16,6 +16,7 @@ use Rattle.rules.specs.Message.{Bytes}
 use Rattle.rules.specs.Session.{ReplayChunk, Session, Result, answers, refused, choose, unless, isNil, bytesOf}
 use Rattle.rules.specs.Respond.{endOffset, trimmed, ack}
 use Rattle.rules.specs.Beyond.{All}
+use Rattle.rules.proofs.Tests.{never, clash}
 
 -- ---- by cases on a test
 
@@ -39,44 +40,7 @@ unfolding unless
 unless-ind Q s [] r f g = g tt
 unless-ind Q s (t ∷ ts) r f g = cond-ind Q (t .0) (λ e. f (t .1)) (λ e. unless-ind Q s ts r f (λ h. g (e, h)))
 
--- ---- what tests tell
-
-pub never {ℓ} : {X : Type ℓ} → true ≡ false → X
-never e = absurd (true≢false e)
-
-pub clash {ℓ} : {X : Type ℓ} {b : Bool} → b ≡ true → b ≡ false → X
-clash e f = never (sym e ∙ f)
-
-pub and-left : (a b : Bool) → (a && b) ≡ true → a ≡ true
-and-left true b e = refl
-and-left false b e = e
-
-pub and-right : (a b : Bool) → (a && b) ≡ true → b ≡ true
-and-right true b e = e
-and-right false b e = never (sym e)
-
-pub and-true : (a b : Bool) → a ≡ true → b ≡ true → (a && b) ≡ true
-and-true a b e f = rw (e, f)
-
--- a test that is asked only where another holds
-pub and-no : {a b : Bool} → a ≡ true → (a && b) ≡ false → b ≡ false
-and-no {b} e f = rw e at f
-
-pub or-left : (a b : Bool) → a ≡ true → (a || b) ≡ true
-or-left true b e = refl
-or-left false b e = never (sym e)
-
-pub or-right : (a b : Bool) → b ≡ true → (a || b) ≡ true
-or-right true b e = refl
-or-right false b e = e
-
-pub or-no-left : (a b : Bool) → (a || b) ≡ false → a ≡ false
-or-no-left true b e = never e
-or-no-left false b e = refl
-
-pub or-no-right : (a b : Bool) → (a || b) ≡ false → b ≡ false
-or-no-right true b e = never e
-or-no-right false b e = e
+-- ---- what options and lists tell
 
 pub opt-ind {ℓ κ} : {A : Type ℓ} (Q : Option A → Type κ) (o : Option A) → (o ≡ none → Q none) → ((a : A) → o ≡ some a → Q (some a)) → Q o
 opt-ind Q none f g = f refl

@@ -14,6 +14,7 @@ use Rattle.rules.specs.Reconnect.{breaks, ruled, judges, fails}
 use Rattle.rules.specs.Replay.{handsWaiter, handsChunk, hands, unsent}
 use Rattle.rules.specs.Step.{step}
 use Rattle.rules.specs.Notes.{accepted}
+use Rattle.rules.proofs.Tests.{and-left, and-right}
 use Rattle.rules.proofs.Lists.{cond-ind, choose-ind}
 
 abbrev pub inTable : ℕ → Bool
@@ -35,14 +36,6 @@ went-refusing s r h = record {
   keeps = λ n e. let a : accepted (r .answer) ≡ true = h .went in cc;
   number = λ n e. let a : accepted (r .answer) ≡ true = h .went in cc;
 }
-
-and-left : (a b : Bool) → (a && b) ≡ true → a ≡ true
-and-left true b e = refl
-and-left false b e = e
-
-and-right : (a b : Bool) → (a && b) ≡ true → b ≡ true
-and-right true b e = e
-and-right false b e = cc
 
 unless-refusing : (s : Session) (rows : List (Bool × ℕ)) (r : Result) → numbered rows ≡ true → Went r → Refusing s (unless s rows r)
 unfolding unless

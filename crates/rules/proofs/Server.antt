@@ -16,7 +16,8 @@ use Rattle.rules.specs.Upload.{chunkRequest}
 use Rattle.rules.specs.Server.{Server, setRequests, setMessages, cutOff, loses, connects, isAt, isSum, takesChunk, takesFinish, takesOne, takesNext, persists, Told, alone, inResource, says}
 use Rattle.rules.specs.World.{sending}
 use Rattle.rules.specs.Beyond.{All}
-use Rattle.rules.proofs.Lists.{cond-ind, never, clash, and-left, and-right, all-map, all-append, split-left, Slice, slice-grow, Part}
+use Rattle.rules.proofs.Tests.{never, clash, and-left, and-right}
+use Rattle.rules.proofs.Lists.{cond-ind, all-map, all-append, split-left, Slice, slice-grow, Part}
 use Rattle.rules.proofs.Inv.{Right, RightIf, HandedOK, AtLeast, least, Ascends, ServerOK}
 
 -- ---- requests

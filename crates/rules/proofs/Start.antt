@@ -18,7 +18,8 @@ use Rattle.rules.specs.Respond.{ack}
 use Rattle.rules.specs.Opening.{Opening, opened, larger, payloadLength, openSum, openChunks, openSession, opens}
 use Rattle.rules.specs.World.{baseOf, ServerAt, start}
 use Rattle.rules.specs.Total.{firstTaken}
-use Rattle.rules.proofs.Lists.{cond-ind, never, Chain, Acked, ack-chain}
+use Rattle.rules.proofs.Tests.{never}
+use Rattle.rules.proofs.Lists.{cond-ind, Chain, Acked, ack-chain}
 use Rattle.rules.proofs.Accepted.{accepted}
 use Rattle.rules.proofs.Inv.{Stock, BufferOK, Inv}
 

@@ -16,7 +16,8 @@ use Rattle.rules.specs.Upload.{requestFor, isFinalizing, waiterOf}
 use Rattle.rules.specs.Respond.{wants, isSatisfied, satisfied}
 use Rattle.rules.specs.Notes.{Mark}
 use Rattle.rules.specs.Beyond.{All}
-use Rattle.rules.proofs.Lists.{cond-ind, never, clash, and-left, and-right, or-left, or-right, all-map, all-append}
+use Rattle.rules.proofs.Tests.{never, clash, and-left, and-right, or-left, or-right}
+use Rattle.rules.proofs.Lists.{cond-ind, all-map, all-append}
 use Rattle.rules.proofs.Inv.{Asked, Pairs, Final, Completed, WaitOK}
 use Rattle.rules.proofs.Server.{right-grow, right-sent}
 

@@ -7,6 +7,7 @@ use lib.ListN.{length}
 use lib.Dec.{leb, ltb, eqb}
 use lib.IntN.{ℤ, pos}
 use lib.Signed.{leZ}
+use Rattle.rules.specs.Limits.{maxChunk, maxCapacity, defaultCapacity, storeSize}
 use Rattle.crc32c.specs.Reg.{crcOf}
 use Rattle.rules.specs.Message.{Bytes, Response, sizeOf, isFinalized, over, maxHandle, maxToken}
 use Rattle.rules.specs.Spec.{AppendObjectSpecState, bucketOf, objectOf, tokenOf, handleOf, handleResponse}
@@ -34,7 +35,7 @@ pub data Opened : Type 0 where
 
 -- "An opening that names no capacity has 33,554,432."
 abbrev pub askedCapacity : Opening → ℕ
-askedCapacity o = Option·getD (o .asked) 33554432
+askedCapacity o = Option·getD (o .asked) defaultCapacity
 
 -- "Capacity is the larger of the asked one and 2 × C + 1."
 abbrev pub capacityOf : Opening → ℕ
@@ -113,8 +114,8 @@ first (row ∷ rows) r = cond (row .0) (turnedAway (row .1)) (first rows r)
 unfoldable pub opens : Opening → Opened
 opens o =
     first
-    ((eqb (o .limit) 0 || ltb 2097152 (o .limit) || ltb 1073741824 (askedCapacity o), 1)
-    ∷ (ltb (o .storeLength) (capacityOf o + 2 * o .limit - 2) || eqb (o .slots) 0, 2)
+    ((eqb (o .limit) 0 || ltb maxChunk (o .limit) || ltb maxCapacity (askedCapacity o), 1)
+    ∷ (ltb (o .storeLength) (storeSize (capacityOf o) (o .limit)) || eqb (o .slots) 0, 2)
     ∷ (not (goodBucket (bucketOf (o .spec))), 3)
     ∷ (tooLong o, 4)
     ∷ (isFinalized (o .response .writeStatus), 5)

@@ -4,6 +4,7 @@ use mathlib.Core.Option.{Option, none, some}
 use mathlib.Core.List.{[], _∷_}
 use Prim.Native.Nat.{ℕ, suc, _-_, _^_, min}
 use lib.Dec.{ltb, eqb}
+use Rattle.rules.specs.Limits.{maxRedirects}
 use Rattle.rules.specs.Message.{Redirect, Break, redirectIn, isRedirect, isEnd, over, maxHandle, maxToken}
 use Rattle.rules.specs.Spec.{redirected}
 use Rattle.rules.specs.Session.{Connector, Cause, finished, permanent, exhausted, givenUp, streamError, Phase, live, closing, connecting, verdict, replay, ended, nothing, Session, attempt, ok, Result, answers, setConnector, setMark, setWorker, setPhase, isLive, isClosing, isVerdict, isConnecting, isEnded, complete, choose, unless, ending}
@@ -57,7 +58,7 @@ breaks b s =
 abbrev pub ruling : Bool → ℕ → ℕ → Option Cause
 ruling redirect followed v =
     cond (eqb v 4) (some givenUp)
-    (cond (redirect && ltb followed 3) none
+    (cond (redirect && ltb followed maxRedirects) none
     (cond (eqb v 2) (some permanent)
     (cond (redirect || eqb v 3) (some exhausted) none)))
 

@@ -7,6 +7,7 @@ use lib.ListN.{length}
 use lib.Dec.{leb, ltb, eqb}
 use lib.IntN.{ℤ, pos, _+ℤ_}
 use lib.Signed.{ltZ}
+use Rattle.rules.specs.Limits.{maxWaiters}
 use Rattle.rules.specs.Message.{Bytes, Request, Response, Break}
 use Rattle.rules.specs.Spec.{AppendObjectSpec}
 
@@ -243,7 +244,7 @@ noSlot s = leb (s .slots) (length (chunks s))
 
 -- "16 waiters wait, or 2^64 − 1 were made"
 unfoldable pub noWaiter : Session → Bool
-noWaiter s = leb 16 (length (waiters s)) || leb (2 ^ 64 - 1) (s .made)
+noWaiter s = leb maxWaiters (length (waiters s)) || leb (2 ^ 64 - 1) (s .made)
 
 -- "a chunk would end past 2^63 − 1"
 unfoldable pub pastEnd : Bytes → Session → Bool

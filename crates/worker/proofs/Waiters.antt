@@ -13,6 +13,7 @@ use lib.IntN.{ℤ, pos, negsuc}
 use lib.ListN.{length, take, drop, getD, getElem?, length-take, length-map, drop-of-length-le}
 use lib.Seq.{length-take-le, drop-cons, getD-take}
 use lib.Signed.{leZ, ltZ}
+use Rattle.rules.specs.Limits.{maxWaiters}
 use Rattle.rules.specs.Session as S
 use Rattle.rules.specs.Respond.{wants, isSatisfied, satisfied}
 use Rattle.worker.specs.View.{kindOf, requestFor, pendingOf, waitersOf}
@@ -46,7 +47,7 @@ element-past (x ∷ l) (suc i) h = element-past l i (le-of-suc-le-suc h)
 -- ---- the waiting requests
 
 -- an array has its length: a caller has `array` from the code's types, or cites `len`
-module _ (q : PendingRequests) (array : length (q .requests) ≡ 16) (fits : q .count ≤ 16) where
+module _ (q : PendingRequests) (array : length (q .requests) ≡ maxWaiters) (fits : q .count ≤ maxWaiters) where
   pub length-waiters : length (waitersOf q) ≡ q .count
   unfolding waitersOf
   length-waiters = length-map (take (q .count) (q .requests)) pendingOf ∙ length-take-le (q .count) (q .requests) (omega arith)

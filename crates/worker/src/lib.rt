@@ -6,6 +6,7 @@ ghost use mathlib.Core.List.{List, [], _∷_, _++_};
 ghost use Prim.Native.Nat.{ℕ, _+_, _*_, _-_, _<_, _≤_};
 ghost use lib.Dec.{leb, eqb};
 ghost use lib.ListN.{length, take, drop, getElem?};
+ghost use Rattle.rules.specs.Limits.{maxWaiters};
 ghost use Rattle.rules.specs.Message.{Bytes};
 ghost use Rattle.rules.specs.Session as S;
 ghost use Rattle.rules.specs.Upload.{flushRequest, finishRequest, chunkRequest};
@@ -23,6 +24,9 @@ use bidi_write::below;
 use connector::Connector;
 use replay_buffer::ReplayBuffer;
 
+// At most so many requests wait.
+pub const MAX_PENDING: usize = 16;
+
 // Which kind of confirmation a request waits for.
 pub enum PendingKind {
     Flush,
@@ -38,7 +42,7 @@ pub struct PendingRequest {
 
 // The waiting requests, oldest first. Their numbers follow from how many were made.
 pub struct PendingRequests {
-    pub requests: [PendingRequest; 16],
+    pub requests: [PendingRequest; MAX_PENDING],
     pub count: usize,
 }
 
@@ -141,14 +145,14 @@ impl PendingRequests {
             object_checksums: Checksum::Unknown,
         };
         PendingRequests {
-            requests: [unused; 16],
+            requests: [unused; MAX_PENDING],
             count: 0,
         }
     }
 
     // How many wait.
     pub fn len(self) -> usize
-        requires { ⌜ self .count ≤ 16 ⌝ }
+        requires { ⌜ self .count ≤ maxWaiters ⌝ }
         ensures { λ r. ⌜ r ≡ length (waitersOf self) ⌝ }
         ensures { λ r. ⌜ r ≡ self .count ⌝ }
     {
@@ -156,7 +160,7 @@ impl PendingRequests {
     }
 
     pub fn push(self, p: PendingRequest) -> PendingRequests
-        requires { ⌜ self .count < 16 ⌝ }
+        requires { ⌜ self .count < maxWaiters ⌝ }
         ensures { λ r. ⌜ waitersOf r ≡ waitersOf self ++ (pendingOf p ∷ []) ⌝ }
         ensures { λ r. ⌜ r .count ≡ self .count + 1 ⌝ }
     {
@@ -171,7 +175,7 @@ impl PendingRequests {
 
     // How many requests a response completes: those at the front, up to the first that it does not satisfy.
     pub fn satisfied(self, size: Offset, finalized: bool) -> usize
-        requires { ⌜ self .count ≤ 16 ⌝ }
+        requires { ⌜ self .count ≤ maxWaiters ⌝ }
         ensures { λ r. ⌜ r ≡ R.satisfied (size .0) finalized (waitersOf self) ⌝ }
         ensures { λ r. ⌜ r ≤ self .count ⌝ }
     {
@@ -190,7 +194,7 @@ impl PendingRequests {
 
     // The first k requests go.
     pub fn complete(self, k: usize) -> PendingRequests
-        requires { ⌜ (k ≤ self .count) × (self .count ≤ 16) ⌝ }
+        requires { ⌜ (k ≤ self .count) × (self .count ≤ maxWaiters) ⌝ }
         ensures { λ r. ⌜ waitersOf r ≡ drop k (waitersOf self) ⌝ }
         ensures { λ r. ⌜ r .count ≡ self .count - k ⌝ }
     {
@@ -209,7 +213,7 @@ impl PendingRequests {
     }
 
     pub fn nth(self, i: usize) -> PendingRequest
-        requires { ⌜ (i < self .count) × (self .count ≤ 16) ⌝ }
+        requires { ⌜ (i < self .count) × (self .count ≤ maxWaiters) ⌝ }
         ensures { λ r. ⌜ getElem? (waitersOf self) i ≡ some (pendingOf r) ⌝ }
     {
         let requests = self.requests;

@@ -6,7 +6,7 @@ use native.Mathlib.Omega.{arith}
 use borrow.Author.Needs.{needs}
 use lib.ListN.{length, drop, getD}
 use Rattle.ring.specs.Ring.{part}
-use Rattle.ring.specs.Word.{lenOf}
+use Rattle.replay_buffer.specs.Word.{lenOf}
 use Rattle.ring.proofs.Laws.{length-part}
 use Rattle.replay_buffer.specs.Ack.{after, frontOf}
 use Rattle.replay_buffer.proofs.Laws.{word-in}

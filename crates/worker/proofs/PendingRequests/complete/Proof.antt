@@ -6,6 +6,7 @@ use Prim.Native.Nat.{ℕ, _+_, _-_, _≤_}
 use native.Mathlib.Omega.{arith}
 use lib.ListN.{length, length-map, take, drop}
 use lib.Seq.{paste}
+use Rattle.rules.specs.Limits.{maxWaiters}
 use Rattle.worker.specs.View.{pendingOf, waitersOf}
 use Rattle.worker.proofs.Shift.{shift-turn, shifted}
 use Rattle.worker.proofs.Waiters.{map-drop}
@@ -14,7 +15,7 @@ use Rattle.worker.proofs.PendingRequests.complete.Tie as tie
 
 abbrev Inv-loop : tie.InvT-loop
 Inv-loop k left requests₀ i₀ requests i =
-    (i ≤ left) × (length requests₀ ≡ 16) × (left + k ≤ 16) × (requests ≡ paste requests₀ 0 (drop k requests₀) i)
+    (i ≤ left) × (length requests₀ ≡ maxWaiters) × (left + k ≤ maxWaiters) × (requests ≡ paste requests₀ 0 (drop k requests₀) i)
 
 abbrev μ-loop : tie.MeasureT-loop
 μ-loop k left requests₀ i₀ requests i = left - i

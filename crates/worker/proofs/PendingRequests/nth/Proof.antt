@@ -6,6 +6,7 @@ use native.Mathlib.Omega.{arith}
 use borrow.Author.Needs.{needs}
 use lib.ListN.{length, length-map, length-take, take}
 use lib.Seq.{getD-take}
+use Rattle.rules.specs.Limits.{maxWaiters}
 use Rattle.worker.specs.View.{pendingOf, waitersOf}
 use Rattle.worker.specs.declared.PendingRequest.{PendingRequest}
 use Rattle.worker.proofs.Waiters.{element-map}
@@ -23,7 +24,7 @@ unfolding waitersOf
 returns c =
     let a = c .before .before .args in
     let q = a .self in
-    let array : length (q .requests) ≡ 16 = sym (length-map (q .requests) _) ∙ c .before .before .good .0 .1 .1 .0 .1 .0 .1 in
+    let array : length (q .requests) ≡ maxWaiters = sym (length-map (q .requests) _) ∙ c .before .before .good .0 .1 .1 .0 .1 .0 .1 in
     let h : a .i < length (take (q .count) (q .requests)) = simp length-take (omega arith) in
     element-map pendingOf (take (q .count) (q .requests)) (a .i) _ h ∙ ap (λ (p : PendingRequest). some (pendingOf p)) (getD-take (q .count) (q .requests) (a .i) _ (omega arith))
 

@@ -6,6 +6,7 @@ use native.Mathlib.Omega.{arith}
 use borrow.Author.Needs.{needs}
 use lib.ListN.{length, length-map, take}
 use lib.Seq.{take-suc-set}
+use Rattle.rules.specs.Limits.{maxWaiters}
 use Rattle.worker.specs.View.{pendingOf, waitersOf}
 use Rattle.worker.proofs.PendingRequests.push.Statement.{statement}
 use Rattle.worker.proofs.PendingRequests.push.Tie as tie
@@ -24,7 +25,7 @@ unfolding waitersOf
 returns c =
     let a = c .before .args in
     let q = a .self in
-    let array : length (q .requests) ≡ 16 = sym (length-map (q .requests) _) ∙ c .before .good .0 .1 .1 .0 .1 .0 .1 in
+    let array : length (q .requests) ≡ maxWaiters = sym (length-map (q .requests) _) ∙ c .before .good .0 .1 .1 .0 .1 .0 .1 in
     (rw (add-one, take-suc-set (q .requests) (q .count) (a .p) (omega arith)) (map-append pendingOf (take (q .count) (q .requests)) (a .p ∷ [])), refl)
 
 pub push-spec : {M : Type 1} → statement M

@@ -5,6 +5,7 @@ use mathlib.Core.Path.{_≡_, sym, _∙_}
 use Prim.Native.Nat.{_+_, _-_, _≤_}
 use native.Mathlib.Omega.{arith}
 use lib.ListN.{length, length-map}
+use Rattle.rules.specs.Limits.{maxWaiters}
 use Rattle.worker.specs.View.{waitersOf}
 use Rattle.worker.proofs.Waiters.{completed, completed-none, completed-more, completed-stops}
 use Rattle.worker.proofs.PendingRequests.satisfied.Statement.{statement}
@@ -12,7 +13,7 @@ use Rattle.worker.proofs.PendingRequests.satisfied.Tie as tie
 
 abbrev Inv-loop : tie.InvT-loop
 Inv-loop size finalized count requests k₀ k =
-    (k ≤ count) × (length requests ≡ 16) × (count ≤ 16)
+    (k ≤ count) × (length requests ≡ maxWaiters) × (count ≤ maxWaiters)
     × (completed (size .0) finalized requests count 0 ≡ k + completed (size .0) finalized requests count k)
 
 abbrev μ-loop : tie.MeasureT-loop

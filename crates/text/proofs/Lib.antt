@@ -1,0 +1,3 @@
+pub mod Clipped
+pub mod Decimal
+pub mod Signs
