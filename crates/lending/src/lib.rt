@@ -1,9 +1,8 @@
 // The host's calls by value, for our own programs: the record is put into a local and lent to the host's call, so that what a program runs is what a host links.
-ghost use mathlib.Core.List.{[]};
 ghost use lib.ListN.{length};
 ghost use Rattle.rules.specs.Session as R;
 ghost use Rattle.bidi_write.specs.View.{responseOf, breakOf};
-ghost use Rattle.transport.specs.Promise.{Promise, Promised};
+ghost use Rattle.transport.specs.Promise.{Promise, Promised, PromisedAt};
 use bidi_write::Break;
 use bidi_write::Response;
 use transport::Outcome;
@@ -60,7 +59,7 @@ pub fn close(s: Session) -> Outcome
 }
 
 pub fn response(s: Session, store: &[u8], table: &mut [u64], m: Response, handle: &[u8]) -> Outcome
-    ensures { λ r. ⌜ Promise (R.response (responseOf m (now (handle .entry)))) s (now (store .entry)) (now (table .entry)) [] r (now (store .entry)) (now (table .exit)) [] ⌝ }
+    ensures { λ r. ⌜ PromisedAt (R.response (responseOf m (now (handle .entry)))) s (now (store .entry)) (now (table .entry)) r (now (table .exit)) ⌝ }
 {
     let mut t = s;
     let a = session::response(&mut t, store, table, m, handle);
@@ -71,7 +70,7 @@ pub fn response(s: Session, store: &[u8], table: &mut [u64], m: Response, handle
 }
 
 pub fn handshake(s: Session, store: &[u8], table: &mut [u64], m: Response, handle: &[u8]) -> Outcome
-    ensures { λ r. ⌜ Promise (R.handshake (responseOf m (now (handle .entry)))) s (now (store .entry)) (now (table .entry)) [] r (now (store .entry)) (now (table .exit)) [] ⌝ }
+    ensures { λ r. ⌜ PromisedAt (R.handshake (responseOf m (now (handle .entry)))) s (now (store .entry)) (now (table .entry)) r (now (table .exit)) ⌝ }
 {
     let mut t = s;
     let a = session::handshake(&mut t, store, table, m, handle);

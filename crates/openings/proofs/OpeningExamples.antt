@@ -15,8 +15,8 @@ use Rattle.bidi_write.specs.declared.WriteStatus.{WriteStatus}
 use Rattle.bidi_write.specs.declared.WriteStatus.the-variants as status
 use Rattle.state.specs.declared.Condition.the-variants as condition
 use Rattle.openings.specs.Opening.{Beside, beside, openingOf}
-use Rattle.openings.specs.declared.opening.Capacity.the-variants as capacity
-use Rattle.openings.specs.declared.opening.Opening.{Opening}
+use Rattle.openings.specs.declared.Capacity.the-variants as capacity
+use Rattle.openings.specs.declared.Opening.{Opening}
 
 -- a chunk limit of 2 bytes: the capacity is 2 × 2 + 1, the ring 5 + 2 × 2 − 2 = 7 bytes
 with : ℕ → WriteStatus → Opening

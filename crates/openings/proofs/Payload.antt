@@ -1,113 +1,76 @@
 -- The payload of an opening: stored at offset 0 and acknowledged to P, with its place in the write offset and the running sum.
 -- Assumes nothing.
 use mathlib.Core.Path.{_≡_, refl, sym, ap, ap₂, _∙_, subst}
-use mathlib.Core.Bool.{Bool, true, false, cond, _&&_}
+use mathlib.Core.Bool.{false, _&&_}
 use mathlib.Core.Option.{Option, none, some}
 use mathlib.Core.List.{List, [], _∷_, _++_}
 use mathlib.Core.Logic.{⊎-elim}
-use Prim.Native.Nat.{ℕ, _+_, _*_, _-_, _<_, _≤_, _^_, max}
+use Prim.Native.Nat.{ℕ, _+_, _<_, _≤_, max}
 use native.Mathlib.Nat.{zero-add}
 use native.Mathlib.Omega.{arith}
-use borrow.Author.Tests.{le-leb, lt-leb, ltb-true, ltb-false}
+use borrow.Author.Tests.{le-leb, lt-leb, leb-true, leb-false}
 use lib.Dec.{leb}
 use lib.IntN.{ℤ, pos, negsuc}
-use lib.Signed.{leZ, ltZ}
+use lib.Signed.{leZ}
 use lib.ListN.{length}
 use lib.Seq.{take-length}
+use Rattle.rules.specs.Limits.{storeSize}
 use Rattle.crc32c.specs.Reg.{crcOf}
-use Rattle.rules.specs.Message.{Bytes, over}
+use Rattle.rules.specs.Message.{Bytes}
 use Rattle.rules.specs.Session.{ReplayChunk, bytesOf}
 use Rattle.rules.specs.Respond.{ack}
 use Rattle.rules.specs.Opening as O
+use Rattle.rules.proofs.Lists.{cond-ind}
 use Rattle.ring.specs.Ring.{part, Within, Written}
 use Rattle.ring.proofs.Rot.{lt-or-ge}
 use Rattle.ring.proofs.Laws.{length-written, part-written}
 use Rattle.bidi_write.specs.Numbers.{toℕ}
-use Rattle.bidi_write.specs.View.{given}
-use Rattle.bidi_write.proofs.Signs.{pos-back}
 use Rattle.replay_buffer.specs.View.{Lent, lent, queueOf, Fits, Sound}
 use Rattle.replay_buffer.specs.Push.{Room, Pushes}
 use Rattle.replay_buffer.specs.Ack.{Acks}
 use Rattle.replay_buffer.specs.declared.ReplayBuffer.{ReplayBuffer}
 use Rattle.replay_buffer.proofs.Laws.{empty-sound, empty-queue, length-queue, stored-bytes, push-room}
-use Rattle.openings.specs.Opening.{payloadSum, emptyOf, Stores}
-use Rattle.transport.proofs.Tests.{clash}
+use Rattle.openings.specs.Opening.{emptyOf, Sized, Stores}
 
 -- ---- the write offset
 
 pub larger-is : (p : ℤ) (n : ℕ) → O.larger p (pos n) ≡ pos (max (toℕ p) n)
 larger-is (pos q) n =
-    ⊎-elim
-    (λ (h : n < q). ap (λ (t : Bool). cond t (pos n) (pos q)) (lt-leb q n h) ∙ ap pos (omega arith))
-    (λ (h : q ≤ n). ap (λ (t : Bool). cond t (pos n) (pos q)) (le-leb q n h) ∙ ap pos (omega arith))
-    (lt-or-ge n q)
+    cond-ind (λ (z : ℤ). z ≡ pos (max q n)) (leb q n) (λ e. ap pos (omega (arith, leb-true q n e))) (λ e. ap pos (omega (arith, leb-false q n e)))
 larger-is (negsuc q) n = ap pos (omega arith)
 
 -- ---- the running sum
 
-zero-below : (p : ℤ) → ltZ p (pos 0) ≡ true → (leZ p (pos 0) && leZ (pos 0) p) ≡ false
-zero-below (pos n) h = absurd (omega (arith, ltb-true n 0 h))
-zero-below (negsuc n) h = refl
-
-zero-above : (p : ℤ) → ltZ p (pos 0) ≡ false → (toℕ p ≡ 0 → ⊥) → (leZ p (pos 0) && leZ (pos 0) p) ≡ false
-zero-above (pos n) h e = ap (λ (t : Bool). t && leb 0 n) (lt-leb n 0 (omega (arith, e)))
-zero-above (negsuc n) h e = clash refl h
-
-pub sum-given : (present : Bool) (sum : ℕ) (b : Bytes) (p : ℤ) (stated : Option ℕ) → present ≡ true → sum ≡ payloadSum (given present b)
-    → some sum ≡ O.openSum (given present b) p stated
-sum-given true sum b p stated e f = ap some f
-sum-given false sum b p stated e f = clash e refl
-
-module _ (present : Bool) (b : Bytes) (p : ℤ) (stated : Option ℕ) (absent : present ≡ false) where
-  sum-else : O.openSum (given present b) p stated ≡ cond (leZ p (pos 0) && leZ (pos 0) p) (some 0) stated
-  sum-else = ap (λ (t : Bool). O.openSum (given t b) p stated) absent
-
-  pub sum-below : ltZ p (pos 0) ≡ true → stated ≡ O.openSum (given present b) p stated
-  sum-below h = sym (sum-else ∙ ap (λ (t : Bool). cond t (some 0) stated) (zero-below p h))
-
-  pub sum-zero : ltZ p (pos 0) ≡ false → toℕ p ≡ 0 → some 0 ≡ O.openSum (given present b) p stated
-  sum-zero h e = sym (sum-else ∙ ap (λ (z : ℤ). cond (leZ z (pos 0) && leZ (pos 0) z) (some 0) stated) (pos-back p h ∙ ap pos e))
-
-  pub sum-above : ltZ p (pos 0) ≡ false → (toℕ p ≡ 0 → ⊥) → stated ≡ O.openSum (given present b) p stated
-  sum-above h e = sym (sum-else ∙ ap (λ (t : Bool). cond t (some 0) stated) (zero-above p h e))
-
--- ---- what is known of a payload that is given
-
-pub given-short : (n : ℕ) (present : Bool) (b : Bytes) → present ≡ true → over n (given present b) ≡ false → length b ≤ n
-given-short n true b e h = ltb-false n (length b) h
-given-short n false b e h = clash e refl
-
-pub given-sum : (sum : ℕ) (present : Bool) (b : Bytes) → present ≡ true → sum ≡ payloadSum (given present b) → sum ≡ crcOf b
-given-sum sum true b e h = h
-given-sum sum false b e h = clash e refl
+pub not-zero : (p : ℤ) → (p ≡ pos 0 → ⊥) → (leZ p (pos 0) && leZ (pos 0) p) ≡ false
+not-zero (pos n) h = let some : n ≡ 0 → ⊥ = λ e. h (ap pos e) in rw (lt-leb n 0 (omega (arith, some)))
+not-zero (negsuc n) h = refl
 
 -- ---- the buffer
 
-module _ (limit capacity : ℕ) (store : Bytes) (table : List ℕ) (low : 0 < limit) (high : limit ≤ 2097152) (least : 2 * limit + 1 ≤ capacity)
-    (top : capacity ≤ 1073741824) (lent-store : capacity + 2 * limit - 2 ≤ length store) (lent-table : 0 < length table) where
+module _ {limit capacity : ℕ} (store : Bytes) (table : List ℕ) (sized : Sized limit capacity (length store) (length table)) where
   abbrev size : ℕ
-  size = capacity + 2 * limit - 2
+  size = storeSize capacity limit
 
   abbrev memory : Lent
   memory = lent size (length table)
 
-  empty-fits : (end : ℕ) → end < 2 ^ 63 → Fits memory (emptyOf capacity) end (length store) (length table)
-  empty-fits end h = record {
-    store-lent = lent-store;
+  empty-fits : Fits memory (emptyOf capacity) 0 (length store) (length table)
+  empty-fits = record {
+    store-lent = sized .store-lent;
     table-lent = omega arith;
     head-in = omega arith;
     stored-in = omega arith;
-    first-in = lent-table;
+    first-in = sized .table-lent;
     chunks-in = omega arith;
     started = omega arith;
-    end-in = h;
+    end-in = omega arith;
     size-in = omega arith;
   }
 
   pub stores-none : (p : ℤ) → Stores limit capacity none p store table (emptyOf capacity) store table
   stores-none p = record {
     capacity-is = refl;
-    fits = empty-fits 0 (omega arith);
+    fits = empty-fits;
     sound = empty-sound memory (emptyOf capacity) table refl refl limit;
     queue-is = empty-queue memory (emptyOf capacity) table refl refl 0 store;
     store-beyond = refl;
@@ -116,18 +79,18 @@ module _ (limit capacity : ℕ) (store : Bytes) (table : List ℕ) (low : 0 < li
 
   module _ (b : Bytes) (short : length b ≤ limit) where
     pub within : Within (length store) size 0 0 (length b)
-    within = record { room = lent-store; starts = omega arith; ends = omega arith }
+    within = record { room = sized .store-lent; starts = omega arith; ends = omega arith }
 
-    pub payload-room : (n : ℕ) → n ≡ length table → Room (length table) (emptyOf capacity) (length b) n
-    payload-room n e = rw e (push-room memory (emptyOf capacity) 0 store table (empty-fits 0 (omega arith)) (length b) lent-table (omega arith))
+    pub payload-room : Room (length table) (emptyOf capacity) (length b) (length table)
+    payload-room = push-room memory (emptyOf capacity) 0 store table empty-fits (length b) (sized .table-lent) (omega arith)
 
-    module _ (sum : ℕ) (sum-is : sum ≡ crcOf b) (store′ : Bytes) (written : Written size 0 0 b (length b) store store′)
-        (q : ReplayBuffer) (table₁ : List ℕ) (pushes : Pushes (length table) (emptyOf capacity) table (length b) sum q table₁) where
+    module _ {sum : ℕ} {store′ : Bytes} {q : ReplayBuffer} {table₁ : List ℕ} (sum-is : sum ≡ crcOf b) (written : Written size 0 0 b (length b) store store′)
+        (pushes : Pushes (length table) (emptyOf capacity) table (length b) sum q table₁) where
       same-store : length store′ ≡ length store
       same-store = length-written size 0 0 b (length b) store store′ within (omega arith) written
 
       pub pushed-fits : (n k : ℕ) → n ≡ length store → k ≡ length table → Fits memory q (length b) n k
-      pushed-fits n k en ek = rw (en, ek) (rw zero-add at (pushes .fits size 0 (length store) (empty-fits 0 (omega arith)) (omega arith) (omega arith)))
+      pushed-fits n k en ek = rw (en, ek) (rw zero-add at (pushes .fits size 0 (length store) empty-fits (omega arith) (omega arith)))
 
       pushed-sound : Sound limit memory q table₁
       pushed-sound = pushes .sound limit size (empty-sound memory (emptyOf capacity) table refl refl limit) short
@@ -141,9 +104,9 @@ module _ (limit capacity : ℕ) (store : Bytes) (table : List ℕ) (low : 0 < li
           (empty-queue memory (emptyOf capacity) table refl refl 0 store′)
           ∙ ap₂ (λ (x : Bytes) (y : ℕ). record { writeOffset = pos 0; bytes = x; crc32c = y } ∷ []) bytes sum-is
 
-      pub stores-some : (p : ℤ) (r : ReplayBuffer) (table′ : List ℕ) → length table₁ ≡ length table → length table′ ≡ length table
+      pub stores-some : {p : ℤ} {r : ReplayBuffer} {table′ : List ℕ} → length table₁ ≡ length table → length table′ ≡ length table
           → Acks memory q (length b) store′ table₁ p r table′ → Stores limit capacity (some b) p store table r store′ table′
-      stores-some p r table′ e f acks = record {
+      stores-some {p} {r} e f acks = record {
         capacity-is = acks .keeps .capacity-is ∙ ap (λ (x : ReplayBuffer). x .capacity) (pushes .result-is);
         fits = subst (λ (k : ℕ). Fits memory r (length b) (length store′) k) (e ∙ sym f) (acks .keeps .fits);
         sound = acks .sound limit pushed-sound;

@@ -1,7 +1,6 @@
 -- The session of an accepted opening is the rules' one, and valid.
 -- Assumes nothing.
-use mathlib.Core.Path.{_≡_, sym, ap, ap₂, _∙_, subst}
-use mathlib.Core.Bool.{false}
+use mathlib.Core.Path.{_≡_, sym, ap, _∙_}
 use mathlib.Core.Option.{Option, Option·getD}
 use mathlib.Core.List.{List, []}
 use Prim.Native.Nat.{ℕ, _+_, _*_, _<_, _≤_, _^_, max}
@@ -10,10 +9,10 @@ use borrow.Author.Tests.{le-ltb}
 use lib.IntN.{ℤ, pos}
 use lib.Signed.{ltZ}
 use lib.ListN.{length}
+use Rattle.rules.specs.Limits.{defaultCapacity}
 use Rattle.rules.specs.Message as M
 use Rattle.rules.specs.Message.{Bytes}
 use Rattle.rules.specs.Spec as S
-use Rattle.rules.specs.Session as R
 use Rattle.rules.specs.Opening as O
 use Rattle.ring.specs.Ring.{part}
 use Rattle.bidi_write.specs.Numbers.{toℕ}
@@ -31,7 +30,7 @@ use Rattle.transport.specs.Valid.{Valid}
 use Rattle.openings.specs.Opening.{Beside, askedOf, dialled, openingOf, Admitted, Connects, Stores, freshSession, Fresh, Starts}
 use Rattle.transport.specs.declared.Phase.the-variants as phase
 use Rattle.transport.specs.declared.Session.{Session}
-use Rattle.openings.specs.declared.opening.Opening.{Opening}
+use Rattle.openings.specs.declared.Opening.{Opening}
 use Rattle.openings.proofs.Admission.{not-over}
 use Rattle.openings.proofs.Payload.{larger-is, queue-at}
 
@@ -41,9 +40,9 @@ payloadOf o b = given (o .«has_payload») (b .payload)
 abbrev sizeOf : Opening → ℤ
 sizeOf o = Option·getD (M.sizeOf (statusOf (o .response .«write_status»))) (pos 0)
 
-module _ (o : Opening) (b : Beside) (store : Bytes) (table : List ℕ) (admitted : Admitted o b (length store) (length table)) (slots-top : length table < 2 ^ 63)
-    (p at : Offset) (run : Checksum) (c : Connector) (buffer : ReplayBuffer) (q : PendingRequests) (store′ : Bytes) (table′ : List ℕ)
-    (capacity-is : buffer .capacity ≡ max (Option·getD (askedOf (o .capacity)) 33554432) (2 * o .limit + 1))
+module _ {o : Opening} {b : Beside} {store : Bytes} {table : List ℕ} {c : Connector} {buffer : ReplayBuffer} {store′ : Bytes} {table′ : List ℕ} (p at : Offset) (run : Checksum)
+    (q : PendingRequests) (admitted : Admitted o b (length store) (length table)) (slots-top : length table < 2 ^ 63)
+    (capacity-is : buffer .capacity ≡ max (Option·getD (askedOf (o .capacity)) defaultCapacity) (2 * o .limit + 1))
     (size-is : p .0 ≡ sizeOf o)
     (connects : Connects o (b .bucket) (b .object) (b .writeHandle) (b .routingToken) (b .responseHandle) c)
     (stores : Stores (o .limit) (buffer .capacity) (payloadOf o b) (p .0) store table buffer store′ table′)
@@ -94,58 +93,26 @@ module _ (o : Opening) (b : Beside) (store : Bytes) (table : List ℕ) (admitted
       ap (λ (n : ℕ). queueOf (lentOf left) buffer n store′ table′) offset-nat
       ∙ queue-at (o .limit) (lentOf left) buffer (payloadOf o b) (p .0) store′ table′ (stores .fits) (stores .sound) (stores .queue-is)
 
-  abbrev sessionAt : ℤ → Option ℕ → R.Connector → List R.ReplayChunk → ℕ → List R.PendingRequest → ℤ → R.Session
-  sessionAt at run c chunks capacity waiters p = record {
-    limit = o .limit;
-    slots = length table;
-    phase = R.live;
-    sent = R.nothing;
-    made = 0;
-    writeOffset = at;
-    runningCrc32c = run;
-    held = [];
-    worker = record {
-      connector = c;
-      replayBuffer = record { queue = chunks; capacity = capacity };
-      pendingRequests = waiters;
-      persistedSize = p;
-      finalized = false;
-      selfFlushOutstanding = false;
-    };
+  connector-is : connectorOf c ≡ record {
+    spec = S.handleResponse (responseOf (o .response) (b .responseHandle)) (dialled o b);
+    attemptCount = 0;
+    redirectsFollowed = 0;
+    lastPersistedSize = o .«last_persisted_size» .0;
   }
-
-  abbrev connectorAt : S.AppendObjectSpec → ℕ → ℕ → ℤ → R.Connector
-  connectorAt spec attempts redirects last = record { spec = spec; attemptCount = attempts; redirectsFollowed = redirects; lastPersistedSize = last }
-
-  connector-is : connectorOf c ≡ connectorAt (S.handleResponse (responseOf (o .response) (b .responseHandle)) (dialled o b)) 0 0 (o .«last_persisted_size» .0)
   unfolding connectorOf
-  connector-is =
-      ap₂ (λ (x : S.AppendObjectSpec) (l : Offset). connectorAt x (c .«attempt_count») (c .«redirects_followed») (l .0)) (connects .spec-is (b .payload)) (connects .size-is)
-      ∙ ap₂ (λ (i j : ℕ). connectorAt (S.handleResponse (responseOf (o .response) (b .responseHandle)) (dialled o b)) i j (o .«last_persisted_size» .0))
-      (connects .attempts-is) (connects .redirects-is)
+  connector-is = rw (connects .spec-is (b .payload), connects .attempts-is, connects .redirects-is, connects .size-is)
 
   left-view : view left store′ table′ ≡ O.openSession (openingOf o b (length store) (length table))
   unfolding view workerOf part openingOf O.openSession
-  left-view =
-      let P : ℤ = p .0 in
-      let pl : Option Bytes = payloadOf o b in
-      ap₂ (λ (x : ℤ) (y : Option ℕ). sessionAt x y (connectorOf c) (queueOf (lentOf left) buffer (toℕ (at .0)) store′ table′) (buffer .capacity) (waitersOf q) P) at-is run-is
-      ∙ ap₂ (λ (x : R.Connector) (y : List R.ReplayChunk). sessionAt (O.larger P (pos (O.payloadLength pl))) (O.openSum pl P (checksumOf (o .checksum))) x y (buffer .capacity) (waitersOf q) P)
-      connector-is queue-is
-      ∙ ap₂ (λ (x : ℕ) (y : List R.PendingRequest). sessionAt (O.larger P (pos (O.payloadLength pl))) (O.openSum pl P (checksumOf (o .checksum)))
-      (connectorAt (S.handleResponse (responseOf (o .response) (b .responseHandle)) (dialled o b)) 0 0 (o .«last_persisted_size» .0)) (O.openChunks pl P) x y P)
-      capacity-is none-waits
-      ∙ ap (λ (x : ℤ). sessionAt (O.larger x (pos (O.payloadLength pl))) (O.openSum pl x (checksumOf (o .checksum)))
-      (connectorAt (S.handleResponse (responseOf (o .response) (b .responseHandle)) (dialled o b)) 0 0 (o .«last_persisted_size» .0)) (O.openChunks pl x)
-      (max (Option·getD (askedOf (o .capacity)) 33554432) (2 * o .limit + 1)) [] x)
-      size-is
+  left-view = rw (queue-is, connector-is, at-is, run-is, capacity-is, none-waits, size-is)
 
   left-starts : Starts o b store table left store′ table′
   left-starts = record { view-is = left-view; valid = left-valid; store-beyond = stores .store-beyond; table-beyond = stores .table-beyond }
 
-pub starts : (o : Opening) (b : Beside) (store : Bytes) (table : List ℕ) → Admitted o b (length store) (length table) → length table < 2 ^ 63
-    → (asked capacity n : ℕ) (p at : Offset) (run : Checksum) (c : Connector) (buffer : ReplayBuffer) (s : Session) (store′ : Bytes) (table′ : List ℕ)
-    → asked ≡ Option·getD (askedOf (o .capacity)) 33554432 → capacity ≡ max asked (2 * o .limit + 1)
+pub starts : {o : Opening} {b : Beside} {store : Bytes} {table : List ℕ} {asked capacity n : ℕ} {p at : Offset} {run : Checksum} {c : Connector} {buffer : ReplayBuffer} {s : Session}
+    {store′ : Bytes} {table′ : List ℕ}
+    → Admitted o b (length store) (length table) → length table < 2 ^ 63
+    → asked ≡ Option·getD (askedOf (o .capacity)) defaultCapacity → capacity ≡ max asked (2 * o .limit + 1)
     → p .0 ≡ sizeOf o
     → Connects o (b .bucket) (b .object) (b .writeHandle) (b .routingToken) (b .responseHandle) c
     → Stores (o .limit) capacity (payloadOf o b) (p .0) store table buffer store′ table′
@@ -153,9 +120,7 @@ pub starts : (o : Opening) (b : Beside) (store : Bytes) (table : List ℕ) → A
     → checksumOf run ≡ O.openSum (payloadOf o b) (p .0) (checksumOf (o .checksum))
     → Fresh (o .limit) (length table) phase.Live at run c buffer p s
     → Starts o b store table s store′ table′
-starts o b store table admitted slots-top asked capacity n p at run c buffer s store′ table′ ea ec ep connects stores en ew er fresh =
-    subst (λ (x : Session). Starts o b store table x store′ table′) (sym (fresh .record-is))
-    (left-starts o b store table admitted slots-top p at run c buffer (s .worker .«pending_requests») store′ table′
-    (stores .capacity-is ∙ ec ∙ ap (λ (k : ℕ). max k (2 * o .limit + 1)) ea) ep connects
-    (subst (λ (k : ℕ). Stores (o .limit) k (payloadOf o b) (p .0) store table buffer store′ table′) (sym (stores .capacity-is)) stores)
-    (ew .0 ∙ ap (λ (k : ℕ). O.larger (p .0) (pos k)) en) (ew .1) er (fresh .none-waits) (fresh .count-is))
+starts {p} {at} {run} {s} admitted slots-top ea ec ep connects stores en ew er fresh =
+    rw (fresh .record-is)
+    (left-starts p at run (s .worker .«pending_requests») admitted slots-top (stores .capacity-is ∙ rw ea at ec) ep connects (rw (← stores .capacity-is) at stores)
+    (rw en at (ew .0)) (ew .1) er (fresh .none-waits) (fresh .count-is))

@@ -28,7 +28,7 @@ use Rattle.openings.specs.Opening.{Unopened, emptyOf, freshSession, Fres
 use Rattle.transport.specs.declared.Outcome.{Outcome}
 use Rattle.transport.specs.declared.Phase.the-variants as phase
 use Rattle.transport.specs.declared.Session.{Session}
-use Rattle.transport.proofs.Tests.{clash}
+use Rattle.rules.proofs.Tests.{clash}
 
 module _ (sum : Checksum) (c : Connector) (size : Offset) (spec-fits : SpecFits (c .spec)) where
   abbrev left : PendingRequests → Session

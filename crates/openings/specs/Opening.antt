@@ -3,9 +3,10 @@ use mathlib.Core.Path.{_≡_}
 use mathlib.Core.Bool.{false, _&&_}
 use mathlib.Core.Option.{Option, none, some, Option·getD}
 use mathlib.Core.List.{List, []}
-use Prim.Native.Nat.{ℕ, _+_, _*_, _-_, _<_, _≤_, max}
+use Prim.Native.Nat.{ℕ, _+_, _*_, _<_, _≤_, max}
 use lib.ListN.{length, drop}
 use lib.IntN.{ℤ}
+use Rattle.rules.specs.Limits.{maxChunk, maxCapacity, defaultCapacity, storeSize}
 use Rattle.crc32c.specs.Reg.{crcOf}
 use Rattle.rules.specs.Message as M
 use Rattle.rules.specs.Message.{Bytes}
@@ -22,19 +23,20 @@ use Rattle.replay_buffer.specs.View.{lent, queueOf, Fits, Sound}
 use Rattle.replay_buffer.specs.declared.ReplayBuffer.{ReplayBuffer}
 use Rattle.worker.specs.View.{waitersOf}
 use Rattle.worker.specs.declared.PendingRequests.{PendingRequests}
-use Rattle.transport.specs.View.{phaseOf, numberOf, lentOf, view}
+use Rattle.bidi_write.specs.Refusal.{numberOf}
+use Rattle.transport.specs.View.{phaseOf, lentOf, view}
 use Rattle.transport.specs.Valid.{Valid}
-use Rattle.transport.specs.declared.Check.{Check}
-use Rattle.transport.specs.declared.Check.the-variants as check
+use Rattle.bidi_write.specs.declared.Check.{Check}
+use Rattle.bidi_write.specs.declared.Check.the-variants as check
 use Rattle.transport.specs.declared.Phase.{Phase}
 use Rattle.transport.specs.declared.Sent.the-variants as sent
-use Rattle.transport.specs.declared.Refusal.{Refusal}
+use Rattle.bidi_write.specs.declared.Refusal.{Refusal}
 use Rattle.transport.specs.declared.Session.{Session}
-use Rattle.openings.specs.declared.opening.Capacity.{Capacity}
-use Rattle.openings.specs.declared.opening.Capacity.the-variants as capacity
-use Rattle.openings.specs.declared.opening.Opening.{Opening}
-use Rattle.openings.specs.declared.opening.OpenAnswer.the-variants as answer
-use Rattle.openings.specs.declared.opening.Opened.{Opened}
+use Rattle.openings.specs.declared.Capacity.{Capacity}
+use Rattle.openings.specs.declared.Capacity.the-variants as capacity
+use Rattle.openings.specs.declared.Opening.{Opening}
+use Rattle.openings.specs.declared.OpenAnswer.the-variants as answer
+use Rattle.openings.specs.declared.Opened.{Opened}
 
 -- the bytes that come beside an opening
 pub record Beside : Type 0 where
@@ -109,9 +111,9 @@ pub record Opens (o : Opening) (b : Beside) (store : Bytes) (table : List ℕ) (
 -- what refusals 1 to 4 leave
 pub record Admitted (o : Opening) (b : Beside) (store table : ℕ) : Type 0 where
   pub limit-some : 0 < o .limit
-  pub limit-top : o .limit ≤ 2097152
-  pub asked-top : Option·getD (askedOf (o .capacity)) 33554432 ≤ 1073741824
-  pub store-lent : max (Option·getD (askedOf (o .capacity)) 33554432) (2 * o .limit + 1) + 2 * o .limit - 2 ≤ store
+  pub limit-top : o .limit ≤ maxChunk
+  pub asked-top : Option·getD (askedOf (o .capacity)) defaultCapacity ≤ maxCapacity
+  pub store-lent : storeSize (max (Option·getD (askedOf (o .capacity)) defaultCapacity) (2 * o .limit + 1)) (o .limit) ≤ store
   pub table-lent : 0 < table
   pub bucket-in : length (b .bucket) ≤ 256
   pub object-in : length (b .object) ≤ 1024
@@ -142,13 +144,22 @@ payloadSum (some b) = crcOf b
 abbrev pub emptyOf : ℕ → ReplayBuffer
 emptyOf capacity = record { capacity = capacity; head = 0; «unpersisted_bytes» = 0; first = 0; chunks = 0 }
 
+-- what a payload is stored into
+pub record Sized (limit capacity store table : ℕ) : Type 0 where
+  pub limit-some : 0 < limit
+  pub limit-top : limit ≤ maxChunk
+  pub capacity-low : 2 * limit + 1 ≤ capacity
+  pub capacity-top : capacity ≤ maxCapacity
+  pub store-lent : storeSize capacity limit ≤ store
+  pub table-lent : 0 < table
+
 -- the replay buffer, with the payload
 pub record Stores (limit capacity : ℕ) (payload : Option Bytes) (persisted : ℤ) (store : Bytes) (table : List ℕ) (r : ReplayBuffer) (store′ : Bytes) (table′ : List ℕ) : Type 0 where
   pub capacity-is : r .capacity ≡ capacity
-  pub fits : Fits (lent (capacity + 2 * limit - 2) (length table)) r (O.payloadLength payload) (length store′) (length table′)
-  pub sound : Sound limit (lent (capacity + 2 * limit - 2) (length table)) r table′
-  pub queue-is : queueOf (lent (capacity + 2 * limit - 2) (length table)) r (O.payloadLength payload) store′ table′ ≡ O.openChunks payload persisted
-  pub store-beyond : drop (capacity + 2 * limit - 2) store′ ≡ drop (capacity + 2 * limit - 2) store
+  pub fits : Fits (lent (storeSize capacity limit) (length table)) r (O.payloadLength payload) (length store′) (length table′)
+  pub sound : Sound limit (lent (storeSize capacity limit) (length table)) r table′
+  pub queue-is : queueOf (lent (storeSize capacity limit) (length table)) r (O.payloadLength payload) store′ table′ ≡ O.openChunks payload persisted
+  pub store-beyond : drop (storeSize capacity limit) store′ ≡ drop (storeSize capacity limit) store
   pub table-beyond : drop (length table) table′ ≡ drop (length table) table
 
 abbrev pub freshSession : ℕ → ℕ → Phase → Offset → Checksum → Connector → ReplayBuffer → Offset → PendingRequests → Session

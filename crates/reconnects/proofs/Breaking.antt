@@ -1,9 +1,9 @@
 -- Break: what the code tests and leaves is what the rule says.
 -- Assumes nothing.
 use mathlib.Core.Path.{_≡_, refl, sym, ap, ap₂, _∙_}
-use mathlib.Core.Bool.{Bool, true, false, not, cond, _&&_, _||_}
+use mathlib.Core.Bool.{Bool, true, false, cond, _&&_}
 use mathlib.Core.Option.{some}
-use mathlib.Core.List.{List, []}
+use mathlib.Core.List.{List}
 use Prim.Native.Nat.{ℕ, _≤_}
 use native.Mathlib.Omega.{arith}
 use lib.Dec.{eqb}
@@ -22,23 +22,27 @@ use Rattle.state.specs.View.{SpecFits}
 use Rattle.connector.specs.View.{connectorOf}
 use Rattle.connector.specs.declared.Connector.{Connector}
 use Rattle.worker.specs.View.{workerOf}
-use Rattle.transport.specs.View.{phaseOf, numberOf, view}
+use Rattle.bidi_write.specs.Refusal.{numberOf}
+use Rattle.admission.specs.Rows.{breakRows}
+use Rattle.transport.specs.View.{phaseOf, view}
 use Rattle.transport.specs.Valid.{Valid}
 use Rattle.transport.specs.Promise.{Promise}
-use Rattle.transport.specs.Check.{checked, rows}
+use Rattle.bidi_write.specs.Refusal.{checked}
 use Rattle.transport.specs.Parts.{EndsAs}
 use Rattle.reconnects.specs.Follows.{awaits}
 use Rattle.transport.specs.declared.Answer.the-variants as answer
-use Rattle.transport.specs.declared.Check.{Check}
-use Rattle.transport.specs.declared.Check.the-variants as check
+use Rattle.bidi_write.specs.declared.Check.{Check}
+use Rattle.bidi_write.specs.declared.Check.the-variants as check
 use Rattle.transport.specs.declared.Outcome.{Outcome}
 use Rattle.transport.specs.declared.Phase.the-variants as phase
-use Rattle.transport.specs.declared.Refusal.{Refusal}
+use Rattle.bidi_write.specs.declared.Refusal.{Refusal}
 use Rattle.transport.specs.declared.Sent.the-variants as sent
 use Rattle.transport.specs.declared.Session.{Session}
-use Rattle.transport.proofs.Refused.{refused, passed, refusal}
+use Rattle.bidi_write.proofs.Rows.{refused, passed, first-false, later}
+use Rattle.transport.proofs.Refused.{refusal}
 use Rattle.transport.proofs.Numbers.{complete-is}
-use Rattle.reconnects.proofs.Following.{runs, promise, ended, valid-renewed, rerouted-keeps}
+use Rattle.transport.proofs.Views.{runs, valid-renewed}
+use Rattle.reconnects.proofs.Following.{promise, ended, rerouted-keeps}
 
 -- ---- a break follows no redirect, and progress starts anew
 
@@ -78,13 +82,16 @@ second : (t : Bool) (x y : R.Result) → t ≡ false → R.choose t x y ≡ y
 unfolding R.choose
 second t x y e = rw e refl
 
--- what the code tests: a phase's number, whether a stream is there, whether a token or handle is too long
-abbrev pub breakTests : ℕ → Bool → Bool → Check
-breakTests n streams long = checked (rows (eqb n 6) false (not streams) false long false false false false)
+abbrev breakTests : ℕ → Bool → Check
+breakTests n long = checked (breakRows n long)
+
+-- where the code goes on, no token or handle is too long
+pub break-short : (n : ℕ) (long : Bool) → breakTests n long ≡ check.Go → long ≡ false
+break-short n long e = first-false long _ _ (later _ _ _ (later _ _ _ e))
 
 module _ (b : M.Break) (v : R.Session) where
   abbrev RuleTests : Check → Type 0
-  RuleTests o = breakTests (R.phaseNumber (v .phase)) (R.isLive (v .phase) || R.isClosing (v .phase)) (overlong (M.redirectIn b)) ≡ o
+  RuleTests o = breakTests (R.phaseNumber (v .phase)) (overlong (M.redirectIn b)) ≡ o
 
   rule-refuses : (x : Refusal) → RuleTests (check.Refuse x) → step (R.break b) v ≡ R.answers (R.refused (numberOf x)) v
   unfolding step breaks R.unless
@@ -109,17 +116,17 @@ module _ (b : M.Break) (v : R.Session) where
 
 -- ---- the call
 
-module _ (s : Session) (store : Bytes) (table : List ℕ) (n : ℕ) (phase-is : n ≡ R.phaseNumber (phaseOf (s .phase))) (b : M.Break)
-    (streams : Bool) (streams-is : streams ≡ (eqb n 1 || eqb n 5)) (long : Bool) (long-is : long ≡ overlong (M.redirectIn b)) where
-  at-view : (o : Check) → breakTests n streams long ≡ o → RuleTests b (view s store table) o
+module _ (s : Session) (store : Bytes) (table : List ℕ) (out : Bytes) (n : ℕ) (phase-is : n ≡ R.phaseNumber (phaseOf (s .phase))) (b : M.Break)
+    (long : Bool) (long-is : long ≡ overlong (M.redirectIn b)) where
+  at-view : (o : Check) → breakTests n long ≡ o → RuleTests b (view s store table) o
   unfolding view
-  at-view o e = rw (sym phase-is, sym streams-is, sym long-is) e
+  at-view o e = rw (sym phase-is, sym long-is) e
 
-  pub break-refuses : (x : Refusal) → breakTests n streams long ≡ check.Refuse x
-      → Promise (R.break b) s store table [] (record { session = s; answer = answer.Refused x }) store table []
-  break-refuses x e = refusal (R.break b) s store table [] x (λ _. rule-refuses b (view s store table) x (at-view (check.Refuse x) e))
+  pub break-refuses : (x : Refusal) → breakTests n long ≡ check.Refuse x
+      → Promise (R.break b) s store table out (record { session = s; answer = answer.Refused x }) store table out
+  break-refuses x e = refusal (R.break b) s store table out x (λ _. rule-refuses b (view s store table) x (at-view (check.Refuse x) e))
 
-  module _ (go : breakTests n streams long ≡ check.Go) (complete : Bool) (complete-means : complete ≡ (s .worker .finalized && eqb (s .worker .«pending_requests» .count) 0)) where
+  module _ (go : breakTests n long ≡ check.Go) (complete : Bool) (complete-means : complete ≡ (s .worker .finalized && eqb (s .worker .«pending_requests» .count) 0)) where
     complete-at : (t : Bool) → complete ≡ t → Valid s store table → R.complete (view s store table) ≡ t
     complete-at t e v = sym (complete-is s store table v) ∙ sym complete-means ∙ e
 
@@ -127,22 +134,22 @@ module _ (s : Session) (store : Bytes) (table : List ℕ) (n : ℕ) (phase-is : 
     unfolding view
     closing-at t e = rw (sym phase-is) e
 
-    pub break-finishes : (r : Outcome) → complete ≡ true → EndsAs cause.Finished 0 s r → Promise (R.break b) s store table [] r store table []
+    pub break-finishes : (r : Outcome) → complete ≡ true → EndsAs cause.Finished 0 s r → Promise (R.break b) s store table out r store table out
     break-finishes r done ends =
-        promise (R.break b) _ s store table r (ended cause.Finished 0 s r ends)
+        promise (R.break b) _ s store table out r (ended cause.Finished 0 s r ends)
         (λ v. sym (rule-finishes b (view s store table) (at-view check.Go go) (complete-at true done v)))
 
     module _ (waits : complete ≡ false) where
       pub break-closes : (cause : Cause) (r : Outcome) → eqb n 5 ≡ true → causeOf cause ≡ cond (M.isEnd b) R.finished R.streamError → EndsAs cause 0 s r
-          → Promise (R.break b) s store table [] r store table []
+          → Promise (R.break b) s store table out r store table out
       break-closes cause r closing cause-is ends =
-          promise (R.break b) _ s store table r (ended cause 0 s r ends)
+          promise (R.break b) _ s store table out r (ended cause 0 s r ends)
           (λ v. ap (λ (k : R.Cause). R.ending k 0 (view s store table)) cause-is
           ∙ sym (rule-closes b (view s store table) (at-view check.Go go) (complete-at false waits v) (closing-at true closing)))
 
       pub break-awaits : (d : Connector) (redirect : Bool) → eqb n 5 ≡ false → redirect ≡ M.isRedirect b
           → connectorOf d ≡ reconnected b (s .worker .«persisted_size» .0) (connectorOf (s .worker .connector))
-          → (SpecFits (s .worker .connector .spec) → SpecFits (d .spec)) → Promise (R.break b) s store table [] (awaits d redirect s) store table []
+          → (SpecFits (s .worker .connector .spec) → SpecFits (d .spec)) → Promise (R.break b) s store table out (awaits d redirect s) store table out
       unfolding view workerOf connectorOf
       break-awaits d redirect live redirect-is d-is fits = record {
         refuses = λ x f. let z : _≡_ {A = ℕ} 0 1 = cc in absurd (omega arith);

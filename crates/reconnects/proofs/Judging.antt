@@ -8,6 +8,7 @@ use Prim.Native.Nat.{ℕ, _-_, _^_, _<_, _≤_}
 use native.Mathlib.Omega.{arith}
 use borrow.Author.Tests.{ltb-true}
 use lib.Dec.{ltb, eqb}
+use Rattle.rules.specs.Limits.{maxRedirects}
 use Rattle.rules.specs.Message.{Bytes}
 use Rattle.rules.specs.Message as M
 use Rattle.rules.specs.Session as R
@@ -19,23 +20,27 @@ use Rattle.state.specs.View.{SpecFits}
 use Rattle.connector.specs.View.{connectorOf}
 use Rattle.connector.specs.declared.Connector.{Connector}
 use Rattle.worker.specs.View.{workerOf}
-use Rattle.transport.specs.View.{phaseOf, numberOf, view}
+use Rattle.bidi_write.specs.Refusal.{numberOf}
+use Rattle.admission.specs.Rows.{judgeRows, failRows}
+use Rattle.transport.specs.View.{phaseOf, view}
 use Rattle.transport.specs.Valid.{Valid}
 use Rattle.transport.specs.Promise.{Promise}
-use Rattle.transport.specs.Check.{checked, rows}
-use Rattle.transport.specs.Parts.{EndsAs}
-use Rattle.reconnects.specs.Follows.{Follows, judged, renewed}
+use Rattle.bidi_write.specs.Refusal.{checked}
+use Rattle.transport.specs.Parts.{renewed, EndsAs}
+use Rattle.reconnects.specs.Follows.{Follows, judged}
 use Rattle.transport.specs.declared.Answer.the-variants as answer
-use Rattle.transport.specs.declared.Check.{Check}
-use Rattle.transport.specs.declared.Check.the-variants as check
+use Rattle.bidi_write.specs.declared.Check.{Check}
+use Rattle.bidi_write.specs.declared.Check.the-variants as check
 use Rattle.transport.specs.declared.Outcome.{Outcome}
 use Rattle.transport.specs.declared.Phase.the-variants as phase
-use Rattle.transport.specs.declared.Refusal.{Refusal}
+use Rattle.bidi_write.specs.declared.Refusal.{Refusal}
 use Rattle.transport.specs.declared.Sent.the-variants as sent
 use Rattle.transport.specs.declared.Session.{Session}
-use Rattle.transport.proofs.Tests.{clash}
-use Rattle.transport.proofs.Refused.{refused, passed, refusal}
-use Rattle.reconnects.proofs.Following.{runs, promise, ended, rerouted-keeps, valid-renewed}
+use Rattle.rules.proofs.Tests.{clash}
+use Rattle.transport.proofs.Views.{runs, valid-renewed}
+use Rattle.bidi_write.proofs.Rows.{refused, passed, first-false, later}
+use Rattle.transport.proofs.Refused.{refusal}
+use Rattle.reconnects.proofs.Following.{promise, ended, rerouted-keeps}
 
 -- ---- a redirect that goes on is one of the first three
 
@@ -48,12 +53,12 @@ below-three false true two e = refl
 below-three false false true e = some-none R.permanent e
 below-three false false false e = some-none R.exhausted e
 
-counted-low : (redirect : Bool) (c : R.Connector) (verdict : ℕ) → ruling redirect (c .redirectsFollowed) verdict ≡ none → c .redirectsFollowed ≤ 3
-    → counted redirect c .redirectsFollowed ≤ 3
-counted-low true c verdict e h = omega (arith, ltb-true (c .redirectsFollowed) 3 (below-three (eqb verdict 4) (ltb (c .redirectsFollowed) 3) (eqb verdict 2) e))
+counted-low : (redirect : Bool) (c : R.Connector) (verdict : ℕ) → ruling redirect (c .redirectsFollowed) verdict ≡ none → c .redirectsFollowed ≤ maxRedirects
+    → counted redirect c .redirectsFollowed ≤ maxRedirects
+counted-low true c verdict e h = omega (arith, ltb-true (c .redirectsFollowed) maxRedirects (below-three (eqb verdict 4) (ltb (c .redirectsFollowed) maxRedirects) (eqb verdict 2) e))
 counted-low false c verdict e h = h
 
-rerouted-low : (o : Option M.Redirect) (d c : Connector) → connectorOf d ≡ rerouted o (connectorOf c) → c .«redirects_followed» ≤ 3 → d .«redirects_followed» ≤ 3
+rerouted-low : (o : Option M.Redirect) (d c : Connector) → connectorOf d ≡ rerouted o (connectorOf c) → c .«redirects_followed» ≤ maxRedirects → d .«redirects_followed» ≤ maxRedirects
 unfolding connectorOf
 rerouted-low o d c e h = let same = ap (λ (k : R.Connector). k .redirectsFollowed) e ∙ rerouted-keeps o (connectorOf c) in omega arith
 
@@ -72,7 +77,7 @@ module _ (s : Session) (redirect : Bool) (verdict : ℕ) (d : Connector)
       (sym e) (counts (omega arith))
 
   low : (store : Bytes) (table : List ℕ) → ruling redirect (s .worker .connector .«redirects_followed») verdict ≡ none → Valid s store table
-      → d .«redirects_followed» ≤ 3
+      → d .«redirects_followed» ≤ maxRedirects
   unfolding connectorOf
   low store table e v =
       let low = v .followed runs in
@@ -86,8 +91,8 @@ module _ (s : Session) (redirect : Bool) (verdict : ℕ) (d : Connector)
   unfolding view workerOf ruled
   goes-on e = record {
     accepts = λ x f. let z : _≡_ {A = ℕ} 0 1 = cc in absurd (omega arith);
-    no-data = refl;
-    steps = λ store table v. as-judged none store table e v;
+    no-data = λ out. refl;
+    steps = λ store table out v. as-judged none store table e v;
     stays = λ store table v.
         valid-renewed d _ phase.Connecting sent.Nothing s store table v (fits (v .spec-fits)) (λ _. low store table e v) tt;
   }
@@ -99,7 +104,7 @@ module _ (s : Session) (redirect : Bool) (verdict : ℕ) (d : Connector)
   rules-end cause r e ends = record {
     accepts = ended cause 0 _ r ends .accepts;
     no-data = ended cause 0 _ r ends .no-data;
-    steps = λ store table v. ends .ends store table [] (over store table v) ∙ as-judged (some (causeOf cause)) store table e v;
+    steps = λ store table out v. ends .ends store table out (over store table v) ∙ as-judged (some (causeOf cause)) store table e v;
     stays = λ store table v. ends .stays store table (over store table v);
   }
     where
@@ -109,82 +114,82 @@ module _ (s : Session) (redirect : Bool) (verdict : ℕ) (d : Connector)
 
 -- ---- the two calls
 
-not-back : (b c : Bool) → b ≡ not c → not b ≡ c
-not-back b c e = ap not e ∙ Bool·not-not c
+abbrev judgeTests : ℕ → Bool → Check
+judgeTests n valid = checked (judgeRows n valid)
 
--- what the code tests: a phase's number, whether the verdict is one, whether a token or handle is too long
-abbrev pub judgeTests : ℕ → Bool → Check
-judgeTests n bad = checked (rows (eqb n 6) false (not (eqb n 2)) bad false false false false false)
+abbrev failTests : ℕ → Bool → Bool → Check
+failTests n valid long = checked (failRows n valid long)
 
-abbrev pub failTests : ℕ → Bool → Bool → Check
-failTests n bad long = checked (rows (eqb n 6) false (not (eqb n 3)) bad long false false false false)
+-- where the code goes on, no token or handle is too long
+pub fail-short : (n : ℕ) (valid long : Bool) → failTests n valid long ≡ check.Go → long ≡ false
+fail-short n valid long e = first-false long _ _ (later _ _ _ (later _ _ _ (later _ _ _ e)))
 
 module _ (verdict : ℕ) (v : R.Session) where
-  judge-refused : (x : Refusal) → judgeTests (R.phaseNumber (v .phase)) (noVerdict verdict) ≡ check.Refuse x
+  judge-refused : (x : Refusal) → judgeTests (R.phaseNumber (v .phase)) (not (noVerdict verdict)) ≡ check.Refuse x
       → step (R.judge verdict) v ≡ R.answers (R.refused (numberOf x)) v
   unfolding step judges R.unless
-  judge-refused x e = refused v _ x _ e
+  judge-refused x e = refused v _ x _ (rw (Bool·not-not (noVerdict verdict)) at e)
 
-  judge-passed : judgeTests (R.phaseNumber (v .phase)) (noVerdict verdict) ≡ check.Go → step (R.judge verdict) v ≡ judged (onRedirect (v .phase)) verdict v
+  judge-passed : judgeTests (R.phaseNumber (v .phase)) (not (noVerdict verdict)) ≡ check.Go → step (R.judge verdict) v ≡ judged (onRedirect (v .phase)) verdict v
   unfolding step judges R.unless
-  judge-passed e = passed v _ _ e
+  judge-passed e = passed v _ _ (rw (Bool·not-not (noVerdict verdict)) at e)
 
   module _ (b : M.Break) where
-    fail-refused : (x : Refusal) → failTests (R.phaseNumber (v .phase)) (noVerdict verdict) (overlong (M.redirectIn b)) ≡ check.Refuse x
+    fail-refused : (x : Refusal) → failTests (R.phaseNumber (v .phase)) (not (noVerdict verdict)) (overlong (M.redirectIn b)) ≡ check.Refuse x
         → step (R.failedAttempt b verdict) v ≡ R.answers (R.refused (numberOf x)) v
     unfolding step fails R.unless
-    fail-refused x e = refused v _ x _ e
+    fail-refused x e = refused v _ x _ (rw (Bool·not-not (noVerdict verdict)) at e)
 
-    fail-passed : failTests (R.phaseNumber (v .phase)) (noVerdict verdict) (overlong (M.redirectIn b)) ≡ check.Go
+    fail-passed : failTests (R.phaseNumber (v .phase)) (not (noVerdict verdict)) (overlong (M.redirectIn b)) ≡ check.Go
         → step (R.failedAttempt b verdict) v
         ≡ judged (M.isRedirect b) verdict (R.setWorker (R.setConnector (rerouted (M.redirectIn b) (v .worker .connector)) (v .worker)) v)
     unfolding step fails R.unless
-    fail-passed e = passed v _ _ e
+    fail-passed e = passed v _ _ (rw (Bool·not-not (noVerdict verdict)) at e)
 
 module _ (s : Session) (n verdict : ℕ) (phase-is : n ≡ R.phaseNumber (phaseOf (s .phase))) (valid : Bool) (valid-is : valid ≡ not (noVerdict verdict)) where
-  module _ (store : Bytes) (table : List ℕ) where
-    judge-at : (o : Check) → judgeTests n (not valid) ≡ o → judgeTests (R.phaseNumber (view s store table .phase)) (noVerdict verdict) ≡ o
+  module _ (store : Bytes) (table : List ℕ) (out : Bytes) where
+    judge-at : (o : Check) → judgeTests n valid ≡ o → judgeTests (R.phaseNumber (view s store table .phase)) (not (noVerdict verdict)) ≡ o
     unfolding view
-    judge-at o e = rw (sym phase-is, sym (not-back valid (noVerdict verdict) valid-is)) e
+    judge-at o e = rw (sym phase-is, sym valid-is) e
 
-    pub judge-refuses : (x : Refusal) → judgeTests n (not valid) ≡ check.Refuse x
-        → Promise (R.judge verdict) s store table [] (record { session = s; answer = answer.Refused x }) store table []
-    judge-refuses x e = refusal (R.judge verdict) s store table [] x (λ _. judge-refused verdict (view s store table) x (judge-at (check.Refuse x) e))
+    pub judge-refuses : (x : Refusal) → judgeTests n valid ≡ check.Refuse x
+        → Promise (R.judge verdict) s store table out (record { session = s; answer = answer.Refused x }) store table out
+    judge-refuses x e = refusal (R.judge verdict) s store table out x (λ _. judge-refused verdict (view s store table) x (judge-at (check.Refuse x) e))
 
-    pub judge-goes : (r : Outcome) → judgeTests n (not valid) ≡ check.Go
+    pub judge-goes : (r : Outcome) → judgeTests n valid ≡ check.Go
         → (R.isEnded (phaseOf (s .phase)) ≡ false → Follows (judged (onRedirect (phaseOf (s .phase))) verdict) s r)
-        → Promise (R.judge verdict) s store table [] r store table []
+        → Promise (R.judge verdict) s store table out r store table out
     unfolding view
-    judge-goes r e f = promise (R.judge verdict) _ s store table r (f (runs s n phase-is _ _ e)) (λ _. sym (judge-passed verdict (view s store table) (judge-at check.Go e)))
+    judge-goes r e f = promise (R.judge verdict) _ s store table out r (f (runs s n phase-is _ _ e)) (λ _. sym (judge-passed verdict (view s store table) (judge-at check.Go e)))
 
   module _ (b : M.Break) (long : Bool) (long-is : long ≡ overlong (M.redirectIn b)) where
-    module _ (store : Bytes) (table : List ℕ) where
-      fail-at : (o : Check) → failTests n (not valid) long ≡ o
-          → failTests (R.phaseNumber (view s store table .phase)) (noVerdict verdict) (overlong (M.redirectIn b)) ≡ o
+    module _ (store : Bytes) (table : List ℕ) (out : Bytes) where
+      fail-at : (o : Check) → failTests n valid long ≡ o
+          → failTests (R.phaseNumber (view s store table .phase)) (not (noVerdict verdict)) (overlong (M.redirectIn b)) ≡ o
       unfolding view
-      fail-at o e = rw (sym phase-is, sym (not-back valid (noVerdict verdict) valid-is), sym long-is) e
+      fail-at o e = rw (sym phase-is, sym valid-is, sym long-is) e
 
-      pub fail-refuses : (x : Refusal) → failTests n (not valid) long ≡ check.Refuse x
-          → Promise (R.failedAttempt b verdict) s store table [] (record { session = s; answer = answer.Refused x }) store table []
+      pub fail-refuses : (x : Refusal) → failTests n valid long ≡ check.Refuse x
+          → Promise (R.failedAttempt b verdict) s store table out (record { session = s; answer = answer.Refused x }) store table out
       fail-refuses x e =
-          refusal (R.failedAttempt b verdict) s store table [] x (λ _. fail-refused verdict (view s store table) b x (fail-at (check.Refuse x) e))
+          refusal (R.failedAttempt b verdict) s store table out x (λ _. fail-refused verdict (view s store table) b x (fail-at (check.Refuse x) e))
 
       -- d is the connector with the redirect taken over
-      pub fail-goes : (d : Connector) (r : Outcome) → failTests n (not valid) long ≡ check.Go
+      pub fail-goes : (d : Connector) (r : Outcome) → failTests n valid long ≡ check.Go
           → connectorOf d ≡ rerouted (M.redirectIn b) (connectorOf (s .worker .connector))
           → (SpecFits (s .worker .connector .spec) → SpecFits (d .spec))
           → (R.isEnded (phaseOf (s .phase)) ≡ false
           → Follows (judged (M.isRedirect b) verdict) (renewed d (s .worker .«self_flush_outstanding») (s .phase) (s .sent) s) r)
-          → Promise (R.failedAttempt b verdict) s store table [] r store table []
+          → Promise (R.failedAttempt b verdict) s store table out r store table out
       unfolding view workerOf
       fail-goes d r e d-is fits f =
           promise (R.failedAttempt b verdict)
           (λ (v : R.Session). judged (M.isRedirect b) verdict (R.setWorker (R.setConnector (rerouted (M.redirectIn b) (v .worker .connector)) (v .worker)) v))
-          s store table r
+          s store table out r
           (record {
             accepts = f (run) .accepts;
             no-data = f (run) .no-data;
-            steps = λ store table v. f (run) .steps store table (kept store table v)
+            steps = λ store table out v. f (run) .steps store table out (kept store table v)
                 ∙ ap (λ (c : R.Connector). judged (M.isRedirect b) verdict (R.setWorker (R.setConnector c (view s store table .worker)) (view s store table))) d-is;
             stays = λ store table v. f (run) .stays store table (kept store table v);
           })

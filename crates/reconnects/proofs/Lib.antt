@@ -1,4 +1,3 @@
 pub mod Following
 pub mod Judging
 pub mod Breaking
-pub mod Unsending

@@ -14,29 +14,29 @@ use Rattle.rules.specs.Session as R
 use Rattle.rules.specs.Replay.{place, given, handsChunk, hands}
 use Rattle.rules.specs.Step.{step}
 use Rattle.worker.proofs.Waiters.{element-past}
-use Rattle.transport.specs.View.{phaseOf, numberOf, view}
+use Rattle.bidi_write.specs.Refusal.{numberOf}
+use Rattle.admission.specs.Rows.{nextRows}
+use Rattle.transport.specs.View.{phaseOf, view}
 use Rattle.transport.specs.Valid.{Valid}
 use Rattle.transport.specs.Promise.{Promise}
-use Rattle.transport.specs.Check.{checked, rows}
+use Rattle.bidi_write.specs.Refusal.{checked}
 use Rattle.replays.specs.Replay.{cursorOf, HandsChunk, HandsRest}
 use Rattle.transport.specs.declared.Cursor.{Cursor}
 use Rattle.transport.specs.declared.Phase.{Phase}
 use Rattle.transport.specs.declared.Phase.the-variants as phase
 use Rattle.transport.specs.declared.Session.{Session}
-use Rattle.transport.specs.declared.Refusal.{Refusal}
-use Rattle.transport.specs.declared.Refusal.the-variants as refusal
+use Rattle.bidi_write.specs.declared.Refusal.{Refusal}
 use Rattle.transport.specs.declared.Answer.the-variants as answer
-use Rattle.transport.specs.declared.Check.{Check}
-use Rattle.transport.specs.declared.Check.the-variants as check
+use Rattle.bidi_write.specs.declared.Check.{Check}
+use Rattle.bidi_write.specs.declared.Check.the-variants as check
 use Rattle.transport.specs.declared.Outcome.{Outcome}
-use Rattle.transport.proofs.Tests.{clash}
-use Rattle.transport.proofs.Refused.{refused, passed, first-false}
+use Rattle.rules.proofs.Tests.{clash}
+use Rattle.bidi_write.proofs.Rows.{refused, passed, first-false, later}
 use Rattle.transport.proofs.Refused as laws
 use Rattle.transport.proofs.Numbers.{chunks-are}
 
--- what the code tests: a phase's number, and whether a chunk is next and the out buffer too short for it
 abbrev pub nextTests : ℕ → Bool → Check
-nextTests n short = checked (rows (eqb n 6) false (not (eqb n 4)) false false short false false false)
+nextTests n short = checked (nextRows n short)
 
 -- the rule's last test
 abbrev short : ℕ → R.Session → Bool
@@ -52,12 +52,11 @@ rule-hands : (out : ℕ) (v : R.Session) → nextTests (R.phaseNumber (v .phase)
 unfolding step hands R.unless
 rule-hands out v e = passed v _ _ e
 
--- where the code goes on, the tests do not hold
-goes-on : (ended phase out : Bool) → checked (rows ended false phase false false out false false false) ≡ check.Go → (phase ≡ false) × (out ≡ false)
-unfolding checked
-goes-on true p o e = clash refl (first-false true refusal.Ended [] e)
-goes-on false true o e = clash refl (first-false true refusal.WrongPhase [] e)
-goes-on false false o e = (refl, first-false o refusal.ShortOut [] e)
+-- where the code goes on, the last two tests do not hold
+goes-on : (n : ℕ) (out : Bool) → nextTests n out ≡ check.Go → (not (eqb n 4) ≡ false) × (out ≡ false)
+goes-on n out e =
+    let phase = later (eqb n 6) _ _ e in
+    (first-false (not (eqb n 4)) _ _ phase, first-false out _ _ (later (not (eqb n 4)) _ _ phase))
 
 -- ---- the cursor
 
@@ -115,12 +114,12 @@ module _ (s : Session) (store : Bytes) (table : List ℕ) (out : Bytes) (n : ℕ
   module _ (goes : nextTests n (more && short-out) ≡ check.Go) where
     here : s .phase ≡ phase.Replay at
     here =
-        in-replay (s .phase) (ap (λ (k : ℕ). eqb k 4) (sym phase-is) ∙ not-false (eqb n 4) (goes-on (eqb n 6) (not (eqb n 4)) (more && short-out) goes .0))
+        in-replay (s .phase) (ap (λ (k : ℕ). eqb k 4) (sym phase-is) ∙ not-false (eqb n 4) (goes-on n (more && short-out) goes .0))
         ∙ ap phase.Replay (sym at-is)
 
     room : more ≡ true → s .limit ≤ length out
     room m =
-        ltb-false (length out) (s .limit) (ap (λ (t : Bool). t && short-out) (sym m) ∙ goes-on (eqb n 6) (not (eqb n 4)) (more && short-out) goes .1)
+        ltb-false (length out) (s .limit) (ap (λ (t : Bool). t && short-out) (sym m) ∙ goes-on n (more && short-out) goes .1)
 
     rule-is : Valid s store table → step (R.nextRequest (length out)) (view s store table)
         ≡ handsChunk (getElem? (R.chunks (view s store table)) (at .next)) (at .next) (view s store table)

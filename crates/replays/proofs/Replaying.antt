@@ -40,7 +40,7 @@ use Rattle.transport.specs.declared.Phase.the-variants as phase
 use Rattle.transport.specs.declared.Sent.{Sent}
 use Rattle.transport.specs.declared.Sent.the-variants as sent
 use Rattle.transport.specs.declared.Session.{Session}
-use Rattle.transport.specs.declared.Refusal.{Refusal}
+use Rattle.bidi_write.specs.declared.Refusal.{Refusal}
 use Rattle.transport.specs.declared.Answer.the-variants as answer
 use Rattle.transport.specs.declared.Outcome.{Outcome}
 use Rattle.transport.proofs.Numbers.{fits, chunks-are, waiters-are, watermark-is}

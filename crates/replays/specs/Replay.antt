@@ -14,7 +14,7 @@ use Rattle.transport.specs.declared.Cursor.{Cursor}
 use Rattle.transport.specs.declared.Phase.{Phase}
 use Rattle.transport.specs.declared.Phase.the-variants as phase
 use Rattle.transport.specs.declared.Session.{Session}
-use Rattle.transport.specs.declared.Refusal.{Refusal}
+use Rattle.bidi_write.specs.declared.Refusal.{Refusal}
 use Rattle.transport.specs.declared.Answer.the-variants as answer
 use Rattle.transport.specs.declared.Outcome.{Outcome}
 

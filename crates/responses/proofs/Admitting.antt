@@ -1,26 +1,24 @@
 -- The guard and then the refusals of a response or handshake.
 -- Assumes nothing.
-use mathlib.Core.Path.{_≡_, refl, sym, _∙_}
-use mathlib.Core.Bool.{Bool, true, false}
-use mathlib.Core.List.{List, []}
+use mathlib.Core.Path.{_≡_, sym, _∙_}
+use mathlib.Core.Bool.{Bool, false}
 use Prim.Native.Nat.{ℕ}
+use Rattle.admission.specs.Rows.{messageRows}
 use Rattle.transport.specs.Valid.{GuardedAt}
-use Rattle.transport.specs.Check.{checked, rows}
+use Rattle.bidi_write.specs.Refusal.{Rows, checked}
 use Rattle.responses.specs.Respond.{Admits}
-use Rattle.transport.specs.declared.Check.{Check}
-use Rattle.transport.specs.declared.Check.the-variants as check
-use Rattle.transport.specs.declared.Refusal.{Refusal}
-use Rattle.transport.specs.declared.Refusal.the-variants as refusal
+use Rattle.bidi_write.specs.declared.Check.{Check}
+use Rattle.bidi_write.specs.declared.Check.the-variants as check
+use Rattle.bidi_write.specs.declared.Refusal.{Refusal}
+use Rattle.bidi_write.specs.declared.Refusal.the-variants as refusal
 use Rattle.transport.specs.declared.Session.{Session}
-use Rattle.transport.proofs.Tests.{clash}
-use Rattle.transport.proofs.Refused.{first-false}
+use Rattle.bidi_write.proofs.Rows.{no-go, first-false, later}
 
-module _ (s : Session) (store table : ℕ) (tests : List (Bool × Refusal)) where
+module _ (s : Session) (store table : ℕ) (tests : Rows) where
   pub admits-none : (GuardedAt s store table → ⊥) → Admits s store table tests (check.Refuse refusal.ShortMemory)
-  unfolding checked
   admits-none h = record {
-    fits = λ e. clash refl (first-false true refusal.ShortMemory [] e);
-    goes = λ e. clash refl (first-false true refusal.ShortMemory [] e);
+    fits = no-go refusal.ShortMemory;
+    goes = no-go refusal.ShortMemory;
     refuses = λ x e g. absurd (h g);
   }
 
@@ -33,9 +31,7 @@ pub record Passes (ended phase long : Bool) : Type 0 where
   pub right-phase : phase ≡ false
   pub short : long ≡ false
 
-pub passes : (ended phase long : Bool) → checked (rows ended false phase false long false false false false) ≡ check.Go → Passes ended phase long
-unfolding checked
-passes true phase long e = clash refl (first-false true refusal.Ended [] e)
-passes false true long e = clash refl (first-false true refusal.WrongPhase [] e)
-passes false false true e = clash refl (first-false true refusal.TooLong [] e)
-passes false false false e = record { not-ended = refl; right-phase = refl; short = refl }
+pub passes : (ended phase long : Bool) → checked (messageRows ended phase long) ≡ check.Go → Passes ended phase long
+passes ended phase long e =
+    let f = later ended _ _ e in
+    record { not-ended = first-false ended _ _ e; right-phase = first-false phase _ _ f; short = first-false long _ _ (later phase _ _ f) }

@@ -3,7 +3,7 @@
 use mathlib.Core.Path.{_≡_, refl, sym, ap, _∙_}
 use mathlib.Core.Bool.{Bool, true, false, not, _&&_}
 use mathlib.Core.Option.{some}
-use mathlib.Core.List.{List, []}
+use mathlib.Core.List.{List}
 use Prim.Native.Nat.{ℕ, _*_, _-_}
 use native.Mathlib.Omega.{arith}
 use lib.Dec.{leb, eqb}
@@ -23,14 +23,16 @@ use Rattle.transport.specs.Promise.{sentData}
 use Rattle.responses.specs.Respond.{Flushes, Answers}
 use Rattle.transport.specs.declared.Answer.{Answer}
 use Rattle.transport.specs.declared.Answer.the-variants as answer
-use Rattle.transport.specs.declared.MaybeRequest.{MaybeRequest}
+use Rattle.transport.specs.declared.Completed.{Completed}
+use Rattle.transport.specs.declared.Ending.{Ending}
 use Rattle.transport.specs.declared.MaybeRequest.the-variants as maybe
 use Rattle.transport.specs.declared.Outcome.{Outcome}
 use Rattle.transport.specs.declared.Phase.the-variants as phase
-use Rattle.transport.specs.declared.Refusal.{Refusal}
+use Rattle.bidi_write.specs.declared.Refusal.{Refusal}
 use Rattle.transport.specs.declared.Sent.the-variants as sent
 use Rattle.transport.specs.declared.Session.{Session}
-use Rattle.responses.specs.declared.respond.Way.the-variants as way
+use Rattle.responses.specs.declared.Way.the-variants as way
+use Rattle.rules.proofs.Tests.{and-left, and-right}
 use Rattle.transport.proofs.Numbers.{watermark-is}
 use Rattle.transport.proofs.Views.{no-cursor, live-no-replay}
 use Rattle.transport.proofs.Bare.{bare-is}
@@ -52,23 +54,13 @@ flushes-at s n is e low l = record {
       ∙ sym (ap (λ (x : Bool). x && R.watermark (view s store table)) (ap (λ (x : ℕ). eqb x 1) (sym is) ∙ e));
 }
 
--- ---- where it is sent: a chunk is stored, and the last one ends at the write offset
-
-left-true : (a b : Bool) → (a && b) ≡ true → a ≡ true
-left-true true b e = refl
-left-true false b e = e
-
-right-true : (a b : Bool) → (a && b) ≡ true → b ≡ true
-right-true true b e = e
-right-true false b e = let z : _≡_ {A = ℕ} 0 1 = cc in absurd (omega arith)
-
 -- ---- the answers
 
-completes-accepts : (k : ℕ) (m : MaybeRequest) (x : Refusal) → answer.Completes k m ≡ answer.Refused x → ⊥
-completes-accepts k m x e = let z : _≡_ {A = ℕ} 0 1 = cc in absurd (omega arith)
+completes-accepts : (d : Completed) (x : Refusal) → answer.Completes d ≡ answer.Refused x → ⊥
+completes-accepts d x e = let z : _≡_ {A = ℕ} 0 1 = cc in absurd (omega arith)
 
-ends-accepts : (c : Cause) (k f : ℕ) (x : Refusal) → answer.Ends c k f ≡ answer.Refused x → ⊥
-ends-accepts c k f x e = let z : _≡_ {A = ℕ} 0 1 = cc in absurd (omega arith)
+ends-accepts : (d : Ending) (x : Refusal) → answer.Ends d ≡ answer.Refused x → ⊥
+ends-accepts d x e = let z : _≡_ {A = ℕ} 0 1 = cc in absurd (omega arith)
 
 -- the worker with an own flush outstanding
 abbrev pub marked : Worker → Worker
@@ -83,22 +75,22 @@ marked w = record {
 
 module _ (s : Session) (k : ℕ) where
   module _ (asked : Flushes s true) (q : Request) (is : (out : Bytes) → requestOf q out ≡ flushRequest (s .«write_offset» .0)) where
-    flushed : (store : Bytes) (table : List ℕ) → Valid s store table
-        → R.answers (R.completes k (some (requestOf q []))) (view (setPhase (s .phase) sent.BareFlush (setWorker (marked (s .worker)) s)) store table)
+    flushed : (store : Bytes) (table : List ℕ) (out : Bytes) → Valid s store table
+        → R.answers (R.completes k (some (requestOf q out))) (view (setPhase (s .phase) sent.BareFlush (setWorker (marked (s .worker)) s)) store table)
         ≡ lastStep k (view s store table)
     unfolding lastStep view workerOf
-    flushed store table v =
+    flushed store table out v =
         ap (λ (x : _). R.answers (R.completes k (some x)) (R.setPhase (phaseOf (s .phase)) R.bareFlush (R.setWorker (R.setMark true (view s store table .worker)) (view s store table))))
-        (is [] ∙ sym (bare-is s store table v (right-true (R.isLive (phaseOf (s .phase))) (R.watermark (view s store table)) (sym (asked .flushes store table v)))))
+        (is out ∙ sym (bare-is s store table v (and-right (R.isLive (phaseOf (s .phase))) (R.watermark (view s store table)) (sym (asked .flushes store table v)))))
         ∙ sym (chosen _ _ (sym (asked .flushes store table v)))
 
     pub answers-flush : Answers lastStep (way.On k) s (record {
       session = setPhase (s .phase) sent.BareFlush (setWorker (marked (s .worker)) s);
-      answer = answer.Completes k (maybe.Present q);
+      answer = answer.Completes (record { waiters = k; request = maybe.Present q });
     })
     answers-flush = record {
-      accepts = completes-accepts k (maybe.Present q);
-      no-data = rw (is []);
+      accepts = completes-accepts _;
+      no-data = λ out. rw (is out);
       answers = flushed;
       stays = λ store table e v. record {
         guarded = v .guarded;
@@ -107,35 +99,35 @@ module _ (s : Session) (k : ℕ) where
         waiting-is = v .waiting-is;
         spec-fits = v .spec-fits;
         followed = v .followed;
-        cursor = no-cursor (s .phase) _ _ (live-no-replay (s .phase) (left-true (R.isLive (phaseOf (s .phase))) (R.watermark (view s store table)) (sym (asked .flushes store table v))));
+        cursor = no-cursor (s .phase) _ _ (live-no-replay (s .phase) (and-left (R.isLive (phaseOf (s .phase))) (R.watermark (view s store table)) (sym (asked .flushes store table v))));
       };
     }
 
-  pub answers-nothing : Flushes s false → Answers lastStep (way.On k) s (record { session = setPhase (s .phase) sent.Nothing s; answer = answer.Completes k maybe.Absent })
+  pub answers-nothing : Flushes s false → Answers lastStep (way.On k) s (record { session = setPhase (s .phase) sent.Nothing s; answer = answer.Completes (record { waiters = k; request = maybe.Absent }) })
   unfolding lastStep view
   answers-nothing asked = record {
-    accepts = completes-accepts k maybe.Absent;
-    no-data = refl;
-    answers = λ store table v. sym (passed-over _ _ (sym (asked .flushes store table v)));
+    accepts = completes-accepts _;
+    no-data = λ out. refl;
+    answers = λ store table out v. sym (passed-over _ _ (sym (asked .flushes store table v)));
     stays = λ store table e v. valid-phase (s .phase) sent.Nothing s store table v (v .followed) (v .cursor);
   }
 
   pub answers-replay : Answers toReplay (way.On k) s (record {
     session = setPhase (phase.Replay (record { next = 0; bytes = 0 })) sent.Nothing s;
-    answer = answer.Completes k maybe.Absent;
+    answer = answer.Completes (record { waiters = k; request = maybe.Absent });
   })
   unfolding toReplay view
   answers-replay = record {
-    accepts = completes-accepts k maybe.Absent;
-    no-data = refl;
-    answers = λ store table v. refl;
+    accepts = completes-accepts _;
+    no-data = λ out. refl;
+    answers = λ store table out v. refl;
     stays = λ store table e v. valid-phase _ sent.Nothing s store table v (λ _. v .followed e) (refl, omega arith);
   }
 
   pub answers-end : (last : ℕ → R.Session → R.Result) (c : Cause) (r : Outcome) → EndsAs c k s r → Answers last (way.Ends c k) s r
   answers-end last c r ends = record {
-    accepts = λ x e. ends-accepts c k _ x (sym (ends .answer-is) ∙ e);
-    no-data = ap (λ (a : Answer). sentData a []) (ends .answer-is);
-    answers = λ store table v. ends .ends store table [] v;
+    accepts = λ x e. ends-accepts _ x (sym (ends .answer-is) ∙ e);
+    no-data = λ out. ap (λ (a : Answer). sentData a out) (ends .answer-is);
+    answers = ends .ends;
     stays = λ store table e v. ends .stays store table v;
   }

@@ -2,28 +2,30 @@
 -- Assumes nothing.
 use mathlib.Core.Path.{_≡_, refl, sym, ap, _∙_}
 use mathlib.Core.Bool.{Bool, false, not}
-use mathlib.Core.List.{List, []}
+use mathlib.Core.List.{List}
 use Prim.Native.Nat.{ℕ}
 use lib.ListN.{length}
 use Rattle.rules.specs.Message as M
 use Rattle.rules.specs.Session as R
 use Rattle.rules.specs.Respond.{updated, progress, takes, lastStep, toReplay, responds, shakes}
 use Rattle.rules.specs.Step.{step}
-use Rattle.transport.specs.View.{phaseOf, numberOf, view}
+use Rattle.bidi_write.specs.Refusal.{numberOf}
+use Rattle.transport.specs.View.{phaseOf, view}
 use Rattle.transport.specs.Valid.{GuardedAt}
-use Rattle.transport.specs.Promise.{Promise}
-use Rattle.transport.specs.Check.{checked}
+use Rattle.transport.specs.Promise.{PromisedAt}
+use Rattle.bidi_write.specs.Refusal.{checked}
 use Rattle.responses.specs.Respond.{Admits, receives, isOpen, Prepares, Takes, Answers}
 use Rattle.transport.specs.declared.Answer.the-variants as answer
-use Rattle.transport.specs.declared.Check.{Check}
-use Rattle.transport.specs.declared.Check.the-variants as check
+use Rattle.bidi_write.specs.declared.Check.{Check}
+use Rattle.bidi_write.specs.declared.Check.the-variants as check
 use Rattle.transport.specs.declared.Outcome.{Outcome}
 use Rattle.transport.specs.declared.Phase.{Phase}
-use Rattle.transport.specs.declared.Refusal.{Refusal}
+use Rattle.bidi_write.specs.declared.Refusal.{Refusal}
 use Rattle.transport.specs.declared.Session.{Session}
-use Rattle.responses.specs.declared.respond.Taken.{Taken}
+use Rattle.responses.specs.declared.Taken.{Taken}
 use Rattle.responses.proofs.Admitting.{passes}
-use Rattle.transport.proofs.Refused.{refused, passed, refusal}
+use Rattle.bidi_write.proofs.Rows.{refused, passed}
+use Rattle.transport.proofs.Refused.{refusal}
 
 -- the session with the mark cleared and the connector changed
 abbrev noted : (R.Connector → R.Connector) → R.Session → R.Session
@@ -66,9 +68,9 @@ handshake-rules m = record { refuses = λ v x e. refused v _ x _ e; accepts = λ
 
 module _ {c : R.Call} {right : R.Phase → Bool} {m : M.Response} {f : R.Connector → R.Connector} {last : ℕ → R.Session → R.Result} (rules : Rules c right m f last)
     (s : Session) (store : M.Bytes) (table : List ℕ) (way : Check) (admits : Admits s (length store) (length table) (receives right (phaseOf (s .phase)) m) way) where
-  pub refuses-as : (x : Refusal) → way ≡ check.Refuse x → Promise c s store table [] (record { session = s; answer = answer.Refused x }) store table []
+  pub refuses-as : (x : Refusal) → way ≡ check.Refuse x → PromisedAt c s store table (record { session = s; answer = answer.Refused x }) table
   unfolding view
-  refuses-as x e = refusal c s store table [] x (λ v. rules .refuses (view s store table) x (admits .refuses x e (v .guarded)))
+  refuses-as x e out = refusal c s store table out x (λ v. rules .refuses (view s store table) x (admits .refuses x e (v .guarded)))
 
   module _ (go : way ≡ check.Go) where
     -- what the callees ask
@@ -96,13 +98,13 @@ module _ {c : R.Call} {right : R.Phase → Bool} {m : M.Response} {f : R.Connect
           rules .accepts (view s store table) (admits .goes go)
           ∙ ap (λ (x : R.Session). takes (M.sizeOf (m .writeStatus)) (M.isFinalized (m .writeStatus)) x last) (sym (p .view-is store table))
 
-      pub accepts-as : Promise c s store table [] r store table′ []
-      accepts-as = record {
+      pub accepts-as : PromisedAt c s store table r table′
+      accepts-as out = record {
         refuses = λ x e. absurd (an .accepts x e);
         store-beyond = refl;
         table-beyond = rw (p .slots-is) at (ts .beyond);
-        out-beyond = rw (an .no-data);
+        out-beyond = rw (an .no-data out);
         steps = λ v.
-            an .answers store table′ (ts .stays no-replay (p .stays store table before v)) ∙ sym (ts .takes last no-replay (p .stays store table before v)) ∙ sym rule;
+            an .answers store table′ out (ts .stays no-replay (p .stays store table before v)) ∙ sym (ts .takes last no-replay (p .stays store table before v)) ∙ sym rule;
         stays = λ v. an .stays store table′ not-ended (ts .stays no-replay (p .stays store table before v));
       }

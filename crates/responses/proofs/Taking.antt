@@ -17,9 +17,9 @@ use Rattle.transport.specs.View.{view}
 use Rattle.transport.specs.Valid.{Valid}
 use Rattle.responses.specs.Respond.{Absorbs, Goes, Takes}
 use Rattle.transport.specs.declared.Session.{Session}
-use Rattle.responses.specs.declared.respond.Absorbed.{Absorbed}
-use Rattle.responses.specs.declared.respond.Way.{Way}
-use Rattle.responses.specs.declared.respond.Way.the-variants as way
+use Rattle.responses.specs.declared.Absorbed.{Absorbed}
+use Rattle.responses.specs.declared.Way.{Way}
+use Rattle.responses.specs.declared.Way.the-variants as way
 use Rattle.transport.proofs.Numbers.{complete-is}
 
 pub chosen : {b : Bool} (x y : R.Result) → b ≡ true → R.choose b x y ≡ x

@@ -12,31 +12,32 @@ use Rattle.rules.specs.Session as R
 use Rattle.rules.specs.Respond as Rule
 use Rattle.bidi_write.specs.View.{causeOf}
 use Rattle.connector.specs.declared.Connector.{Connector}
+use Rattle.admission.specs.Rows.{messageRows}
 use Rattle.transport.specs.View.{phaseOf, view, answerOf}
 use Rattle.transport.specs.Valid.{GuardedAt, Valid}
-use Rattle.transport.specs.Check.{checked, rows}
+use Rattle.bidi_write.specs.Refusal.{Rows, checked}
 use Rattle.transport.specs.Parts.{setWorker}
 use Rattle.transport.specs.Promise.{sentData}
 use Rattle.transport.specs.declared.Answer.the-variants as answer
-use Rattle.transport.specs.declared.Check.{Check}
-use Rattle.transport.specs.declared.Check.the-variants as check
+use Rattle.bidi_write.specs.declared.Check.{Check}
+use Rattle.bidi_write.specs.declared.Check.the-variants as check
 use Rattle.transport.specs.declared.Outcome.{Outcome}
-use Rattle.transport.specs.declared.Refusal.{Refusal}
+use Rattle.bidi_write.specs.declared.Refusal.{Refusal}
 use Rattle.transport.specs.declared.Session.{Session}
-use Rattle.responses.specs.declared.respond.Absorbed.{Absorbed}
-use Rattle.responses.specs.declared.respond.Taken.{Taken}
-use Rattle.responses.specs.declared.respond.Way.{Way}
-use Rattle.responses.specs.declared.respond.Way.the-variants as way
+use Rattle.responses.specs.declared.Absorbed.{Absorbed}
+use Rattle.responses.specs.declared.Taken.{Taken}
+use Rattle.responses.specs.declared.Way.{Way}
+use Rattle.responses.specs.declared.Way.the-variants as way
 
 -- the refusals 7, 6 and 4 of a message that comes in the right phases alone
-abbrev pub receives : (R.Phase → Bool) → R.Phase → M.Response → List (Bool × Refusal)
-receives right p m = rows (R.isEnded p) false (not (right p)) false (M.over M.maxHandle (m .writeHandle)) false false false false
+abbrev pub receives : (R.Phase → Bool) → R.Phase → M.Response → Rows
+receives right p m = messageRows (R.isEnded p) (not (right p)) (M.over M.maxHandle (m .writeHandle))
 
 abbrev pub isOpen : R.Phase → Bool
 isOpen p = R.isLive p || R.isClosing p
 
 -- the guard, and then the refusals: memory that does not fit is refused, whatever the tests say
-pub record Admits (s : Session) (store table : ℕ) (tests : List (Bool × Refusal)) (r : Check) : Type 0 where
+pub record Admits (s : Session) (store table : ℕ) (tests : Rows) (r : Check) : Type 0 where
   pub fits : r ≡ check.Go → GuardedAt s store table
   pub goes : r ≡ check.Go → checked tests ≡ check.Go
   pub refuses : (x : Refusal) → r ≡ check.Refuse x → GuardedAt s store table → checked tests ≡ check.Refuse x
@@ -97,7 +98,7 @@ pub record Flushes (s : Session) (r : Bool) : Type 0 where
 -- the last step of a response or handshake, which no memory is lent to
 pub record Answers (last : ℕ → R.Session → R.Result) (w : Way) (s : Session) (r : Outcome) : Type 0 where
   pub accepts : (x : Refusal) → r .answer ≡ answer.Refused x → ⊥
-  pub no-data : sentData (r .answer) [] ≡ []
-  pub answers : (store : Bytes) (table : List ℕ) → Valid s store table
-      → R.answers (answerOf (r .answer) []) (view (r .session) store table) ≡ onward w last (view s store table)
+  pub no-data : (out : Bytes) → sentData (r .answer) out ≡ []
+  pub answers : (store : Bytes) (table : List ℕ) (out : Bytes) → Valid s store table
+      → R.answers (answerOf (r .answer) out) (view (r .session) store table) ≡ onward w last (view s store table)
   pub stays : (store : Bytes) (table : List ℕ) → R.isEnded (phaseOf (s .phase)) ≡ false → Valid s store table → Valid (r .session) store table

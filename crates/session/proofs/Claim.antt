@@ -29,12 +29,11 @@ module _ (c : R.Call) (m : Memory) (r : Outcome) where
   at-table : {out store : Bytes} {table table′ : List ℕ} {out′ : Bytes} → table ≡ table′ → At out store table′ out′ → At out store table out′
   at-table {out} {store} {table} {table′} {out′} e = subst (λ (x : List ℕ). At out store x out′) (sym e)
 
-  at-out : {out store : Bytes} {table : List ℕ} {out′ : Bytes} → out ≡ [] → out′ ≡ [] → At [] store table [] → At out store table out′
-  at-out {out} {store} {table} {out′} e e′ p =
-      subst (λ (x : Bytes). At x store table out′) (sym e) (subst (λ (x : Bytes). At [] store table x) (sym e′) p)
+  at-out : {out store : Bytes} {table : List ℕ} {out′ : Bytes} → out′ ≡ out → At out store table out → At out store table out′
+  at-out {out} {store} {table} {out′} e = subst (λ (x : Bytes). At out store table x) (sym e)
 
   unlent : {out store : Bytes} {table : List ℕ} {out′ : Bytes} → Unlent m out store table out′ → Promised c (m .session) r → At out store table out′
-  unlent u p = at-store (u .1) (at-table (u .2) (at-out (u .0) (u .3) (p (m .store) (m .table))))
+  unlent {out} u p = at-store (u .0) (at-table (u .1) (at-out (u .2) (p (m .store) (m .table) out)))
 
 -- what each `ensures` says is the promise that the claims about the core ask for
 promised : (c : R.Call) (m : Memory) (out : Bytes) (r : Outcome) (store : Bytes) (table : List ℕ) (out′ : Bytes)
@@ -49,9 +48,8 @@ promised (R.nextRequest n) m out r store table out′ e =
     (subst (λ (k : ℕ). At (R.nextRequest k) m r out (m .store) (m .table) out′) (sym (e .0)) (e .3)))
 promised R.close m out r store table out′ e = unlent R.close m r (e .0) (e .1)
 promised R.sendFailed m out r store table out′ e = unlent R.sendFailed m r (e .0) (e .1)
-promised (R.response x) m out r store table out′ e = at-store (R.response x) m r (e .1) (at-out (R.response x) m r (e .0) (e .2) (e .3))
-promised (R.handshake x) m out r store table out′ e =
-    at-store (R.handshake x) m r (e .1) (at-out (R.handshake x) m r (e .0) (e .2) (e .3))
+promised (R.response x) m out r store table out′ e = at-store (R.response x) m r (e .0) (at-out (R.response x) m r (e .1) (e .2 out))
+promised (R.handshake x) m out r store table out′ e = at-store (R.handshake x) m r (e .0) (at-out (R.handshake x) m r (e .1) (e .2 out))
 promised (R.break b) m out r store table out′ e = unlent (R.break b) m r (e .0) (e .1)
 promised (R.judge v) m out r store table out′ e = unlent (R.judge v) m r (e .0) (e .1)
 promised (R.failedAttempt b v) m out r store table out′ e = unlent (R.failedAttempt b v) m r (e .0) (e .1)

@@ -10,17 +10,17 @@ use Rattle.rules.specs.Opening as O
 use Rattle.rules.specs.World.{World, ServerAt, start}
 use Rattle.rules.specs.Program.{callIn}
 use Rattle.transport.specs.View.{view}
-use Rattle.transport.specs.Promise.{Promise, Promised}
+use Rattle.transport.specs.Promise.{Promise, Promised, PromisedAt}
 use Rattle.transport.specs.Claim.{Memory, Turn, left, turned, ran, Called, leftBy, leftByAll}
 use Rattle.transport.specs.declared.Outcome.{Outcome}
 use Rattle.openings.specs.Opening.{Beside, openingOf, Opens}
-use Rattle.openings.specs.declared.opening.Opening.{Opening}
-use Rattle.openings.specs.declared.opening.OpenAnswer.the-variants as answer
-use Rattle.openings.specs.declared.opening.Opened.{Opened}
+use Rattle.openings.specs.declared.Opening.{Opening}
+use Rattle.openings.specs.declared.OpenAnswer.the-variants as answer
+use Rattle.openings.specs.declared.Opened.{Opened}
 
 -- of what a call is not lent nothing changes
 abbrev pub Unlent : Memory → Bytes → Bytes → List ℕ → Bytes → Type 0
-Unlent m out store table out′ = (out ≡ []) × (store ≡ m .store) × (table ≡ m .table) × (out′ ≡ [])
+Unlent m out store table out′ = (store ≡ m .store) × (table ≡ m .table) × (out′ ≡ out)
 
 -- what the `ensures` of each call says, from the record and memory that it was lent to what it answered and left
 abbrev pub Ensures : R.Call → Memory → Bytes → Outcome → Bytes → List ℕ → Bytes → Type 0
@@ -36,9 +36,9 @@ Ensures (R.nextRequest n) m out r store table out′ =
 Ensures R.close m out r store table out′ = Unlent m out store table out′ × Promised R.close (m .session) r
 Ensures R.sendFailed m out r store table out′ = Unlent m out store table out′ × Promised R.sendFailed (m .session) r
 Ensures (R.response x) m out r store table out′ =
-    (out ≡ []) × (store ≡ m .store) × (out′ ≡ []) × Promise (R.response x) (m .session) (m .store) (m .table) [] r (m .store) table []
+    (store ≡ m .store) × (out′ ≡ out) × PromisedAt (R.response x) (m .session) (m .store) (m .table) r table
 Ensures (R.handshake x) m out r store table out′ =
-    (out ≡ []) × (store ≡ m .store) × (out′ ≡ []) × Promise (R.handshake x) (m .session) (m .store) (m .table) [] r (m .store) table []
+    (store ≡ m .store) × (out′ ≡ out) × PromisedAt (R.handshake x) (m .session) (m .store) (m .table) r table
 Ensures (R.break b) m out r store table out′ = Unlent m out store table out′ × Promised (R.break b) (m .session) r
 Ensures (R.judge v) m out r store table out′ = Unlent m out store table out′ × Promised (R.judge v) (m .session) r
 Ensures (R.failedAttempt b v) m out r store table out′ = Unlent m out store table out′ × Promised (R.failedAttempt b v) (m .session) r

@@ -2,12 +2,11 @@
 // record and update it"). A refused call leaves the record as it was, whatever it holds.
 pub mod shown;
 
-ghost use mathlib.Core.List.{[]};
 ghost use lib.ListN.{length};
 ghost use Rattle.rules.specs.Session as R;
 ghost use Rattle.bidi_write.specs.View.{responseOf, breakOf};
 ghost use Rattle.openings.specs.Opening.{beside, Opens};
-ghost use Rattle.transport.specs.Promise.{Promise, Promised};
+ghost use Rattle.transport.specs.Promise.{Promise, Promised, PromisedAt};
 ghost use Rattle.session.specs.Lent.{outcome};
 ghost use Rattle.session.specs.Shown.{Shown, Dials};
 use crate::shown::View;
@@ -15,8 +14,8 @@ use crate::shown::spec_of;
 use crate::shown::view_of;
 use bidi_write::Break;
 use bidi_write::Response;
-use openings::opening::Opened;
-use openings::opening::Opening;
+use openings::Opened;
+use openings::Opening;
 use state::AppendObjectSpec;
 use transport::Answer;
 use transport::Session;
@@ -35,7 +34,7 @@ pub fn open(
 ) -> Opened
     ensures { λ r. ⌜ Opens o (beside (now (bucket .entry)) (now (object .entry)) (now («write_handle» .entry)) (now («routing_token» .entry)) (now («response_handle» .entry)) (now (payload .entry))) (now (store .entry)) (now (table .entry)) r (now (store .exit)) (now (table .exit)) ⌝ }
 {
-    openings::opening::open(
+    openings::open(
         o,
         store,
         table,
@@ -93,9 +92,9 @@ pub fn response(
     m: Response,
     handle: &[u8],
 ) -> Answer
-    ensures { λ r. ⌜ Promise (R.response (responseOf m (now (handle .entry)))) (now (s .entry)) (now (store .entry)) (now (table .entry)) [] (outcome (now (s .exit)) r) (now (store .entry)) (now (table .exit)) [] ⌝ }
+    ensures { λ r. ⌜ PromisedAt (R.response (responseOf m (now (handle .entry)))) (now (s .entry)) (now (store .entry)) (now (table .entry)) (outcome (now (s .exit)) r) (now (table .exit)) ⌝ }
 {
-    let r = responses::respond::response(*s, store, table, m, handle);
+    let r = responses::response(*s, store, table, m, handle);
     *s = r.session;
     r.answer
 }
@@ -107,9 +106,9 @@ pub fn handshake(
     m: Response,
     handle: &[u8],
 ) -> Answer
-    ensures { λ r. ⌜ Promise (R.handshake (responseOf m (now (handle .entry)))) (now (s .entry)) (now (store .entry)) (now (table .entry)) [] (outcome (now (s .exit)) r) (now (store .entry)) (now (table .exit)) [] ⌝ }
+    ensures { λ r. ⌜ PromisedAt (R.handshake (responseOf m (now (handle .entry)))) (now (s .entry)) (now (store .entry)) (now (table .entry)) (outcome (now (s .exit)) r) (now (table .exit)) ⌝ }
 {
-    let r = responses::respond::handshake(*s, store, table, m, handle);
+    let r = responses::handshake(*s, store, table, m, handle);
     *s = r.session;
     r.answer
 }
@@ -117,7 +116,7 @@ pub fn handshake(
 pub fn stream_break(s: &mut Session, b: Break, token: &[u8], handle: &[u8]) -> Answer
     ensures { λ r. ⌜ Promised (R.break (breakOf b (now (token .entry)) (now (handle .entry)))) (now (s .entry)) (outcome (now (s .exit)) r) ⌝ }
 {
-    let r = reconnects::reconnect::stream_break(*s, b, token, handle);
+    let r = reconnects::stream_break(*s, b, token, handle);
     *s = r.session;
     r.answer
 }
@@ -125,7 +124,7 @@ pub fn stream_break(s: &mut Session, b: Break, token: &[u8], handle: &[u8]) -> A
 pub fn judge(s: &mut Session, verdict: u8) -> Answer
     ensures { λ r. ⌜ Promised (R.judge verdict) (now (s .entry)) (outcome (now (s .exit)) r) ⌝ }
 {
-    let r = reconnects::reconnect::judge(*s, verdict);
+    let r = reconnects::judge(*s, verdict);
     *s = r.session;
     r.answer
 }
@@ -133,7 +132,7 @@ pub fn judge(s: &mut Session, verdict: u8) -> Answer
 pub fn failed_attempt(s: &mut Session, b: Break, token: &[u8], handle: &[u8], verdict: u8) -> Answer
     ensures { λ r. ⌜ Promised (R.failedAttempt (breakOf b (now (token .entry)) (now (handle .entry))) verdict) (now (s .entry)) (outcome (now (s .exit)) r) ⌝ }
 {
-    let r = reconnects::reconnect::failed_attempt(*s, b, token, handle, verdict);
+    let r = reconnects::failed_attempt(*s, b, token, handle, verdict);
     *s = r.session;
     r.answer
 }
@@ -141,7 +140,7 @@ pub fn failed_attempt(s: &mut Session, b: Break, token: &[u8], handle: &[u8], ve
 pub fn next_request(s: &mut Session, store: &[u8], table: &[u64], out: &mut [u8]) -> Answer
     ensures { λ r. ⌜ Promise (R.nextRequest (length (now (out .entry)))) (now (s .entry)) (now (store .entry)) (now (table .entry)) (now (out .entry)) (outcome (now (s .exit)) r) (now (store .entry)) (now (table .entry)) (now (out .exit)) ⌝ }
 {
-    let r = replays::replay::next_request(*s, store, table, out);
+    let r = replays::next_request(*s, store, table, out);
     *s = r.session;
     r.answer
 }
@@ -149,7 +148,7 @@ pub fn next_request(s: &mut Session, store: &[u8], table: &[u64], out: &mut [u8]
 pub fn send_failed(s: &mut Session) -> Answer
     ensures { λ r. ⌜ Promised R.sendFailed (now (s .entry)) (outcome (now (s .exit)) r) ⌝ }
 {
-    let r = reconnects::send_failed::send_failed(*s);
+    let r = replays::send_failed(*s);
     *s = r.session;
     r.answer
 }

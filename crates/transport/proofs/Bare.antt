@@ -20,7 +20,7 @@ use Rattle.worker.specs.declared.Worker.{Worker}
 use Rattle.transport.specs.View.{lentOf, endOf, view}
 use Rattle.transport.specs.Valid.{Valid}
 use Rattle.transport.specs.declared.Session.{Session}
-use Rattle.transport.proofs.Tests.{clash}
+use Rattle.rules.proofs.Tests.{clash}
 use Rattle.transport.proofs.Numbers.{fits, offset-is, watermark-is}
 
 -- the second and the third of three tests

@@ -1,8 +1,8 @@
 -- Close: what the code tests and leaves is what the rule says.
 -- Assumes nothing.
 use mathlib.Core.Path.{_≡_, refl, sym, ap, _∙_}
-use mathlib.Core.Bool.{Bool, false, not}
-use mathlib.Core.List.{List, []}
+use mathlib.Core.Bool.{Bool}
+use mathlib.Core.List.{List}
 use Prim.Native.Nat.{ℕ}
 use native.Mathlib.Omega.{arith}
 use lib.Dec.{leb, eqb}
@@ -10,25 +10,27 @@ use Rattle.rules.specs.Message.{Bytes}
 use Rattle.rules.specs.Session as R
 use Rattle.rules.specs.Upload.{closes}
 use Rattle.rules.specs.Step.{step}
-use Rattle.transport.specs.View.{phaseOf, numberOf, view}
+use Rattle.bidi_write.specs.Refusal.{numberOf}
+use Rattle.admission.specs.Rows.{closeRows}
+use Rattle.transport.specs.View.{phaseOf, view}
 use Rattle.transport.specs.Valid.{Valid}
 use Rattle.transport.specs.Promise.{Promise}
-use Rattle.transport.specs.Check.{checked, rows}
+use Rattle.bidi_write.specs.Refusal.{checked}
 use Rattle.transport.specs.Parts.{setPhase}
 use Rattle.transport.specs.declared.Session.{Session}
 use Rattle.transport.specs.declared.Phase.the-variants as phase
 use Rattle.transport.specs.declared.Sent.the-variants as sent
 use Rattle.transport.specs.declared.Answer.the-variants as answer
-use Rattle.transport.specs.declared.Refusal.{Refusal}
-use Rattle.transport.specs.declared.Check.{Check}
-use Rattle.transport.specs.declared.Check.the-variants as check
-use Rattle.transport.proofs.Refused.{refused, passed, first-false, refusal}
+use Rattle.bidi_write.specs.declared.Refusal.{Refusal}
+use Rattle.bidi_write.specs.declared.Check.{Check}
+use Rattle.bidi_write.specs.declared.Check.the-variants as check
+use Rattle.bidi_write.proofs.Rows.{refused, passed, first-false}
+use Rattle.transport.proofs.Refused.{refusal}
 use Rattle.transport.proofs.Numbers.{full-is}
 use Rattle.transport.proofs.Views.{view-phase, valid-phase}
 
--- what the code tests: a phase's number, and whether the store is full
-abbrev pub closeTests : ℕ → Bool → Check
-closeTests n full = checked (rows (eqb n 6) false (not (eqb n 1)) false false false full false false)
+abbrev closeTests : ℕ → Bool → Check
+closeTests n full = checked (closeRows n full)
 
 rule-refuses : (v : R.Session) (x : Refusal) → closeTests (R.phaseNumber (v .phase)) (R.full v) ≡ check.Refuse x → step R.close v ≡ R.answers (R.refused (numberOf x)) v
 unfolding step closes R.unless
@@ -38,7 +40,7 @@ rule-accepts : (v : R.Session) → closeTests (R.phaseNumber (v .phase)) (R.full
 unfolding step closes R.unless
 rule-accepts v e = passed v _ _ e
 
-module _ (s : Session) (store : Bytes) (table : List ℕ) (n : ℕ) (phase-is : n ≡ R.phaseNumber (phaseOf (s .phase))) where
+module _ (s : Session) (store : Bytes) (table : List ℕ) (out : Bytes) (n : ℕ) (phase-is : n ≡ R.phaseNumber (phaseOf (s .phase))) where
   abbrev b-full : Bool
   b-full = leb (s .worker .«replay_buffer» .capacity) (s .worker .«replay_buffer» .«unpersisted_bytes»)
 
@@ -46,11 +48,11 @@ module _ (s : Session) (store : Bytes) (table : List ℕ) (n : ℕ) (phase-is : 
   unfolding view
   at-view o e v = rw (sym phase-is, sym (full-is s store table v)) e
 
-  pub close-refuses : (x : Refusal) → closeTests n b-full ≡ check.Refuse x → Promise R.close s store table [] (record { session = s; answer = answer.Refused x }) store table []
-  close-refuses x e = refusal R.close s store table [] x (λ v. rule-refuses (view s store table) x (at-view (check.Refuse x) e v))
+  pub close-refuses : (x : Refusal) → closeTests n b-full ≡ check.Refuse x → Promise R.close s store table out (record { session = s; answer = answer.Refused x }) store table out
+  close-refuses x e = refusal R.close s store table out x (λ v. rule-refuses (view s store table) x (at-view (check.Refuse x) e v))
 
   pub close-accepts : closeTests n b-full ≡ check.Go
-      → Promise R.close s store table [] (record { session = setPhase phase.Closing sent.Nothing s; answer = answer.Accepted }) store table []
+      → Promise R.close s store table out (record { session = setPhase phase.Closing sent.Nothing s; answer = answer.Accepted }) store table out
   close-accepts e = record {
     refuses = λ x f. absurd (no-refusal x f);
     store-beyond = refl;

@@ -3,7 +3,7 @@ pub mod Tests
 pub mod Refused
 pub mod Numbers
 pub mod Views
-pub mod Ending
+pub mod Ends
 pub mod Closing
 pub mod Bare
 pub mod Claim

@@ -2,6 +2,5 @@
 pub mod View
 pub mod Valid
 pub mod Promise
-pub mod Check
 pub mod Parts
 pub mod Claim

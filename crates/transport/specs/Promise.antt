@@ -1,19 +1,19 @@
 -- What a call promises: one record for every call, cited by its `ensures` and again by the claim over lists of calls.
 use mathlib.Core.Path.{_≡_}
-use mathlib.Core.List.{List, [], _++_}
+use mathlib.Core.List.{List, _++_}
 use Prim.Native.Nat.{ℕ}
 use lib.ListN.{length, drop}
 use Rattle.rules.specs.Message.{Bytes}
 use Rattle.rules.specs.Session as R
 use Rattle.rules.specs.Step.{step}
 use Rattle.rules.specs.Notes.{requestIn, dataIn}
+use Rattle.bidi_write.specs.declared.Refusal.{Refusal}
 use Rattle.transport.specs.View.{lentOf, view, answerOf}
 use Rattle.transport.specs.Valid.{Valid}
 use Rattle.transport.specs.declared.Session.{Session}
 use Rattle.transport.specs.declared.Answer.{Answer}
 use Rattle.transport.specs.declared.Answer.the-variants as answer
 use Rattle.transport.specs.declared.Outcome.{Outcome}
-use Rattle.transport.specs.declared.Refusal.{Refusal}
 
 -- the data that an answer sends
 abbrev pub sentData : Answer → Bytes → Bytes
@@ -33,4 +33,8 @@ pub record Promise (c : R.Call) (s : Session) (store : Bytes) (table : List ℕ)
 
 -- the same of a call that is lent no memory: whatever the memory holds
 abbrev pub Promised : R.Call → Session → Outcome → Type 0
-Promised c s r = (store : Bytes) (table : List ℕ) → Promise c s store table [] r store table []
+Promised c s r = (store : Bytes) (table : List ℕ) (out : Bytes) → Promise c s store table out r store table out
+
+-- the same of a call that is lent no out buffer
+abbrev pub PromisedAt : R.Call → Session → Bytes → List ℕ → Outcome → List ℕ → Type 0
+PromisedAt c s store table r table′ = (out : Bytes) → Promise c s store table out r store table′ out

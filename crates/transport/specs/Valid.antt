@@ -6,6 +6,7 @@ use Prim.Native.Nat.{ℕ, _+_, _*_, _-_, _<_, _≤_, _^_}
 use lib.ListN.{length, take}
 use lib.IntN.{ℤ, pos}
 use lib.Signed.{ltZ}
+use Rattle.rules.specs.Limits.{maxChunk, maxCapacity, maxWaiters, maxRedirects}
 use Rattle.rules.specs.Message.{Bytes}
 use Rattle.rules.specs.Session as R
 use Rattle.bidi_write.specs.Numbers.{toℕ}
@@ -23,9 +24,9 @@ use Rattle.transport.specs.declared.Session.{Session}
 -- a record or memory that no call left too.
 pub record Guarded (limit slots held : ℕ) (offset : ℤ) (b : ReplayBuffer) (waiting store table : ℕ) : Type 0 where
   pub limit-some : 0 < limit
-  pub limit-top : limit ≤ 2097152
+  pub limit-top : limit ≤ maxChunk
   pub capacity-low : 2 * limit + 1 ≤ b .capacity
-  pub capacity-top : b .capacity ≤ 1073741824
+  pub capacity-top : b .capacity ≤ maxCapacity
   pub store-lent : ringSize limit b ≤ store
   pub table-lent : slots ≤ table
   pub head-in : b .head < ringSize limit b
@@ -33,7 +34,7 @@ pub record Guarded (limit slots held : ℕ) (offset : ℤ) (b : ReplayBuffer) (w
   pub held-in : held < limit
   pub first-in : b .first < slots
   pub chunks-in : b .chunks ≤ slots
-  pub waiting-in : waiting ≤ 16
+  pub waiting-in : waiting ≤ maxWaiters
   pub offset-in : ltZ offset (pos 0) ≡ false
   pub offset-top : toℕ offset < 2 ^ 63
   pub started : b .«unpersisted_bytes» ≤ toℕ offset
@@ -67,5 +68,10 @@ pub record Valid (s : Session) (store : Bytes) (table : List ℕ) : Type 0 where
   pub waiting-is : length (waitersOf (s .worker .«pending_requests»)) ≡ s .worker .«pending_requests» .count
   pub spec-fits : SpecFits (s .worker .connector .spec)
   -- the fourth redirect ends the session
-  pub followed : R.isEnded (phaseOf (s .phase)) ≡ false → s .worker .connector .«redirects_followed» ≤ 3
+  pub followed : R.isEnded (phaseOf (s .phase)) ≡ false → s .worker .connector .«redirects_followed» ≤ maxRedirects
   pub cursor : CursorAt (s .phase) (wordsOf (lentOf s) (s .worker .«replay_buffer») table) (owed (s .worker))
+
+-- a test that decides a proposition
+pub record Decides (P : Type 0) (b : Bool) : Type 0 where
+  pub yes : b ≡ true → P
+  pub no : b ≡ false → P → ⊥

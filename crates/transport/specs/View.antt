@@ -1,12 +1,14 @@
 -- The session of the code, with the lent store and table, as the rules' session; its answers as the rules' answers.
 use mathlib.Core.Option.{Option, none, some}
 use mathlib.Core.List.{List}
-use Prim.Native.Nat.{ℕ, _+_, _*_, _-_}
+use Prim.Native.Nat.{ℕ}
+use Rattle.rules.specs.Limits.{storeSize}
 use Rattle.rules.specs.Message.{Bytes}
 use Rattle.rules.specs.Message as M
 use Rattle.rules.specs.Session as R
 use Rattle.ring.specs.Ring.{part}
 use Rattle.bidi_write.specs.Numbers.{toℕ}
+use Rattle.bidi_write.specs.Refusal.{numberOf}
 use Rattle.bidi_write.specs.View.{checksumOf, requestOf, causeOf}
 use Rattle.replay_buffer.specs.View.{Lent}
 use Rattle.replay_buffer.specs.declared.ReplayBuffer.{ReplayBuffer}
@@ -16,8 +18,6 @@ use Rattle.transport.specs.declared.Phase.the-variants as phase
 use Rattle.transport.specs.declared.Sent.{Sent}
 use Rattle.transport.specs.declared.Sent.the-variants as sent
 use Rattle.transport.specs.declared.Session.{Session}
-use Rattle.transport.specs.declared.Refusal.{Refusal}
-use Rattle.transport.specs.declared.Refusal.the-variants as refusal
 use Rattle.transport.specs.declared.MaybeRequest.{MaybeRequest}
 use Rattle.transport.specs.declared.MaybeRequest.the-variants as maybe
 use Rattle.transport.specs.declared.Answer.{Answer}
@@ -38,7 +38,7 @@ sentOf sent.BareFlush = R.bareFlush
 
 -- the ring: "capacity + 2 × C − 2" bytes at the front of the store
 abbrev pub ringSize : ℕ → ReplayBuffer → ℕ
-ringSize limit b = b .capacity + 2 * limit - 2
+ringSize limit b = storeSize (b .capacity) limit
 
 -- and the slots at the front of the table
 abbrev pub lentOf : Session → Lent
@@ -65,22 +65,6 @@ view s store table = record {
   worker = workerOf (lentOf s) (endOf s) (s .worker) store table;
 }
 
--- document 01's number of each refusal
-abbrev pub numberOf : Refusal → ℕ
-numberOf refusal.Limits = 1
-numberOf refusal.ShortMemory = 2
-numberOf refusal.BadBucket = 3
-numberOf refusal.TooLong = 4
-numberOf refusal.Finalized = 5
-numberOf refusal.WrongPhase = 6
-numberOf refusal.Ended = 7
-numberOf refusal.Full = 8
-numberOf refusal.NoRoom = 9
-numberOf refusal.PastEnd = 10
-numberOf refusal.ShortOut = 11
-numberOf refusal.Closed = 12
-numberOf refusal.BadVerdict = 13
-
 abbrev pub maybeOf : MaybeRequest → Bytes → Option M.Request
 maybeOf maybe.Absent out = none
 maybeOf (maybe.Present r) out = some (requestOf r out)
@@ -91,8 +75,8 @@ answerOf (answer.Refused x) out = R.refused (numberOf x)
 answerOf (answer.Took n r) out = R.took n (maybeOf r out)
 answerOf (answer.Sends r) out = R.sends (requestOf r out)
 answerOf (answer.Waits r n) out = R.waits (requestOf r out) n
-answerOf (answer.Completes k r) out = R.completes k (maybeOf r out)
+answerOf (answer.Completes c) out = R.completes (c .waiters) (maybeOf (c .request) out)
 answerOf (answer.Attempt n) out = R.attempt n
 answerOf answer.Accepted out = R.ok
 answerOf answer.Done out = R.done
-answerOf (answer.Ends c k f) out = R.ends (causeOf c) k f
+answerOf (answer.Ends e) out = R.ends (causeOf (e .cause)) (e .completed) (e .failed)

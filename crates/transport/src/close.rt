@@ -3,16 +3,13 @@
 ghost use Rattle.rules.specs.Session as R;
 ghost use Rattle.transport.specs.Promise.{Promised};
 use crate::Answer;
-use crate::Check;
 use crate::Outcome;
 use crate::Phase;
 use crate::Sent;
 use crate::Session;
-use crate::checks::check;
 use crate::parts::set_phase;
-use crate::phases::ENDED;
-use crate::phases::LIVE;
 use crate::phases::phase_number;
+use bidi_write::Check;
 
 pub fn close(s: Session) -> Outcome
     ensures { λ r. ⌜ Promised R.close s r ⌝ }
@@ -20,18 +17,7 @@ pub fn close(s: Session) -> Outcome
     let p = s.phase;
     let phase = phase_number(p);
     let b = s.worker.replay_buffer;
-    let full = b.capacity <= b.unpersisted_bytes;
-    let way = check(
-        phase == ENDED,
-        false,
-        phase != LIVE,
-        false,
-        false,
-        false,
-        full,
-        false,
-        false,
-    );
+    let way = admission::close(phase, replay_buffer::is_full(b));
     match way {
         Check::Refuse(x) => Outcome {
             session: s,

@@ -1,9 +1,11 @@
 // The guard at the head of every call, for a record or memory that no call left.
-ghost use Rattle.transport.specs.Check.{Decides};
-ghost use Rattle.transport.specs.Valid.{Guarded, GuardedAt};
+ghost use Rattle.transport.specs.Valid.{Guarded, GuardedAt, Decides};
 use crate::Session;
+use bidi_write::MAX_CAPACITY;
+use bidi_write::MAX_WRITE_CHUNK_SIZE;
 use bidi_write::Offset;
 use replay_buffer::ReplayBuffer;
+use worker::MAX_PENDING;
 
 // Whether a record stays within a store and a table of these lengths.
 pub fn guard(s: Session, store: usize, table: usize) -> bool
@@ -42,16 +44,16 @@ fn within(
     if limit == 0 {
         return false;
     }
-    if 2097152 < limit {
+    if MAX_WRITE_CHUNK_SIZE < limit {
         return false;
     }
     if capacity <= 2 * limit {
         return false;
     }
-    if 1073741824 < capacity {
+    if MAX_CAPACITY < capacity {
         return false;
     }
-    let size = capacity + 2 * limit - 2;
+    let size = replay_buffer::ring_size(capacity, limit);
     if store < size {
         return false;
     }
@@ -73,7 +75,7 @@ fn within(
     if slots < b.chunks {
         return false;
     }
-    if 16 < waiting {
+    if MAX_PENDING < waiting {
         return false;
     }
     if bidi_write::is_negative(write_offset) {

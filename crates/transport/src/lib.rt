@@ -1,6 +1,5 @@
 // Ported from google-cloud-storage 1.21.0, src/storage/bidi_write/transport.rs (Apache-2.0); changed: no tasks, channels or heap.
 // The session by value: its record and answers, what every call shares, and close. The other calls are in crates above this one.
-pub mod checks;
 pub mod close;
 pub mod guard;
 pub mod parts;
@@ -9,6 +8,7 @@ pub mod phases;
 use bidi_write::Cause;
 use bidi_write::Checksum;
 use bidi_write::Offset;
+use bidi_write::Refusal;
 use bidi_write::Request;
 use worker::Worker;
 
@@ -51,26 +51,22 @@ pub struct Session {
     pub worker: Worker,
 }
 
-// Why a call was refused: document 01's numbers 1 to 13, in their order.
-pub enum Refusal {
-    Limits,
-    ShortMemory,
-    BadBucket,
-    TooLong,
-    Finalized,
-    WrongPhase,
-    Ended,
-    Full,
-    NoRoom,
-    PastEnd,
-    ShortOut,
-    Closed,
-    BadVerdict,
-}
-
 pub enum MaybeRequest {
     Absent,
     Present(Request),
+}
+
+// Waiters completed, lowest numbers first, and a bare flush.
+pub struct Completed {
+    pub waiters: usize,
+    pub request: MaybeRequest,
+}
+
+// Why a session ended, the waiters completed before, and those that failed or were dropped.
+pub struct Ending {
+    pub cause: Cause,
+    pub completed: usize,
+    pub failed: usize,
 }
 
 // What a call answers. A refused call changes nothing.
@@ -82,25 +78,19 @@ pub enum Answer {
     Sends(Request),
     // flush, finalise: the request, and the number of the waiter made
     Waits(Request, u64),
-    // response, handshake: waiters completed, and a bare flush
-    Completes(usize, MaybeRequest),
+    // response, handshake
+    Completes(Completed),
     // break: the attempt number, 0 on a redirect
     Attempt(u32),
     // close, a verdict or failed attempt that goes on, a send reported failed
     Accepted,
     // next request: the replay is done
     Done,
-    // the session ended: cause, waiters completed before, waiters failed or dropped
-    Ends(Cause, usize, usize),
+    // the session ended
+    Ends(Ending),
 }
 
 pub struct Outcome {
     pub session: Session,
     pub answer: Answer,
-}
-
-// Whether a call goes on.
-pub enum Check {
-    Go,
-    Refuse(Refusal),
 }

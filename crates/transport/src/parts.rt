@@ -2,6 +2,7 @@
 ghost use mathlib.Core.Path.{_≡_};
 ghost use Rattle.transport.specs.Parts.{setPhase, setWorker, EndsAs};
 use crate::Answer;
+use crate::Ending;
 use crate::Outcome;
 use crate::Phase;
 use crate::Sent;
@@ -49,6 +50,10 @@ pub fn end(s: Session, cause: Cause, completed: usize) -> Outcome
     let t = renew(s, after, Phase::Ended(cause), Sent::Nothing);
     Outcome {
         session: t,
-        answer: Answer::Ends(cause, completed, failed),
+        answer: Answer::Ends(Ending {
+            cause,
+            completed,
+            failed,
+        }),
     }
 }

@@ -21,18 +21,21 @@ use Rattle.coalescing_buffer.specs.Held.{Extends}
 use Rattle.coalescing_buffer.proofs.Laws.{length-held, takes-is, holds-is, cuts-is}
 use Rattle.replay_buffer.specs.View.{queueOf}
 use Rattle.worker.specs.View.{workerOf}
-use Rattle.transport.specs.View.{phaseOf, lentOf, endOf, heldOf, numberOf, view}
+use Rattle.bidi_write.specs.Refusal.{numberOf}
+use Rattle.admission.specs.Rows.{uploadCheck}
+use Rattle.transport.specs.View.{phaseOf, lentOf, endOf, heldOf, view}
 use Rattle.transport.specs.Valid.{GuardedAt, Valid}
 use Rattle.transport.specs.Promise.{Promise}
-use Rattle.uploads.specs.Upload.{testRows, chunkAt, CutRoom, Cuts, appendTests, Taking, holding}
+use Rattle.uploads.specs.Upload.{chunkAt, CutRoom, Cuts, appendTests, Taking, holding}
 use Rattle.transport.specs.declared.Session.{Session}
 use Rattle.transport.specs.declared.MaybeRequest.{MaybeRequest}
 use Rattle.transport.specs.declared.MaybeRequest.the-variants as maybe
 use Rattle.transport.specs.declared.Answer.the-variants as answer
-use Rattle.transport.specs.declared.Refusal.{Refusal}
-use Rattle.transport.specs.declared.Check.{Check}
-use Rattle.transport.specs.declared.Check.the-variants as check
+use Rattle.bidi_write.specs.declared.Refusal.{Refusal}
+use Rattle.bidi_write.specs.declared.Check.{Check}
+use Rattle.bidi_write.specs.declared.Check.the-variants as check
 use Rattle.uploads.specs.declared.cut.Sending.{Sending}
+use Rattle.bidi_write.proofs.Rows as Rows
 use Rattle.transport.proofs.Refused as Refused
 use Rattle.transport.proofs.Numbers.{full-is, slot-is}
 use Rattle.uploads.proofs.Uploads.{valid-store, cuttable, past-is}
@@ -48,7 +51,7 @@ fillsAt d v = leb (v .limit) (length (U.holding d v))
 
 abbrev testsAt : Bytes → ℕ → R.Session → Check
 testsAt d out v =
-    testRows (R.phaseNumber (v .phase)) (v .worker .finalized) (fillsAt d v) (fillsAt d v) (R.shortOut out v) (R.full v) (fillsAt d v && R.noSlot v)
+    uploadCheck (R.phaseNumber (v .phase)) (v .worker .finalized) (fillsAt d v) (fillsAt d v) (R.shortOut out v) (R.full v) (fillsAt d v && R.noSlot v)
     (R.pastEnd (U.holding d v) v)
 
 step-is : (d : Bytes) (out : ℕ) (v : R.Session) → 0 < length d → step (R.append d out) v ≡ U.appends d out v
@@ -58,17 +61,17 @@ step-is (x ∷ d) out v h = refl
 
 rule-refuses : (d : Bytes) (out : ℕ) (v : R.Session) (x : Refusal) → testsAt d out v ≡ check.Refuse x → U.appends d out v ≡ R.answers (R.refused (numberOf x)) v
 unfolding U.appends R.closed R.unless
-rule-refuses d out v x e = Refused.refused v _ x _ e
+rule-refuses d out v x e = Rows.refused v _ x _ e
 
 rule-accepts : (d : Bytes) (out : ℕ) (v : R.Session) → testsAt d out v ≡ check.Go
     → U.appends d out v
     ≡ R.choose (fillsAt d v) (R.answers (R.took (U.room d v) (some (U.cutRequest (U.holding d v) v))) (U.cuts (U.holding d v) v))
     (R.answers (R.took (U.room d v) none) (U.holds (U.holding d v) v))
 unfolding U.appends R.closed R.unless R.choose
-rule-accepts d out v e = Refused.passed v _ _ e
+rule-accepts d out v e = Rows.passed v _ _ e
 
 same-tests : (phase : ℕ) (finalized short : Bool) (cuts cuts′ full full′ slot slot′ past past′ : Bool) → cuts ≡ cuts′ → full ≡ full′ → slot ≡ slot′ → past ≡ past′
-    → testRows phase finalized cuts cuts short full (cuts && slot) past ≡ testRows phase finalized cuts′ cuts′ short full′ (cuts′ && slot′) past′
+    → uploadCheck phase finalized cuts cuts short full (cuts && slot) past ≡ uploadCheck phase finalized cuts′ cuts′ short full′ (cuts′ && slot′) past′
 same-tests phase finalized short cuts cuts′ full full′ slot slot′ past past′ e f g h = rw (e, f, g, h)
 
 valid-holds : (s : Session) (store : Bytes) (table : List ℕ) (n : ℕ) → s .held + n < s .limit → Valid s store table → Valid (holding (s .held + n) s) store table

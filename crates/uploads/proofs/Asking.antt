@@ -10,6 +10,7 @@ use native.Mathlib.Omega.{arith}
 use borrow.Author.Tests.{leb-false, not-false}
 use lib.Dec.{ltb, leb, eqb}
 use lib.ListN.{length, length-append}
+use Rattle.rules.specs.Limits.{maxWaiters}
 use Rattle.rules.specs.Message.{Bytes, Request}
 use Rattle.rules.specs.Session as R
 use Rattle.rules.specs.Upload as U
@@ -22,21 +23,24 @@ use Rattle.worker.specs.declared.PendingKind.{PendingKind}
 use Rattle.worker.specs.declared.PendingKind.the-variants as kind
 use Rattle.worker.specs.declared.PendingRequests.{PendingRequests}
 use Rattle.worker.proofs.Waiters.{isNil-is}
-use Rattle.transport.specs.View.{phaseOf, lentOf, endOf, heldOf, numberOf, view}
+use Rattle.bidi_write.specs.Refusal.{numberOf}
+use Rattle.admission.specs.Rows.{uploadCheck}
+use Rattle.transport.specs.View.{phaseOf, lentOf, endOf, heldOf, view}
 use Rattle.transport.specs.Valid.{GuardedAt, Valid}
 use Rattle.transport.specs.Promise.{Promise}
-use Rattle.uploads.specs.Upload.{callOf, testRows, CutRoom, Cuts, askTests, Asking, waiterFor, awaiting, Awaits}
+use Rattle.uploads.specs.Upload.{callOf, CutRoom, Cuts, askTests, Asking, waiterFor, awaiting, Awaits}
 use Rattle.transport.specs.declared.Session.{Session}
 use Rattle.transport.specs.declared.Answer.the-variants as answer
-use Rattle.transport.specs.declared.Refusal.{Refusal}
-use Rattle.transport.specs.declared.Check.{Check}
-use Rattle.transport.specs.declared.Check.the-variants as check
+use Rattle.bidi_write.specs.declared.Refusal.{Refusal}
+use Rattle.bidi_write.specs.declared.Check.{Check}
+use Rattle.bidi_write.specs.declared.Check.the-variants as check
 use Rattle.uploads.specs.declared.cut.Sending.{Sending}
-use Rattle.transport.proofs.Tests.{clash}
+use Rattle.rules.proofs.Tests.{or-no-left, or-no-right}
+use Rattle.bidi_write.proofs.Rows as Rows
 use Rattle.transport.proofs.Refused as Refused
 use Rattle.transport.proofs.Views.{no-cursor, live-no-replay}
 use Rattle.transport.proofs.Numbers.{full-is, slot-is, waiters-are}
-use Rattle.transport.proofs.Ending.{guarded-waiting}
+use Rattle.transport.proofs.Ends.{guarded-waiting}
 use Rattle.uploads.proofs.Uploads.{passes, cuttable, past-is}
 
 -- ---- the rule, by its tests
@@ -46,7 +50,7 @@ heldAt v = not (R.isNil (v .held))
 
 abbrev testsAt : ℕ → R.Session → Check
 testsAt out v =
-    testRows (R.phaseNumber (v .phase)) (v .worker .finalized) true (heldAt v) (R.shortOut out v) (R.full v) (cond (heldAt v) (R.noSlot v) (R.noWaiter v))
+    uploadCheck (R.phaseNumber (v .phase)) (v .worker .finalized) true (heldAt v) (R.shortOut out v) (R.full v) (cond (heldAt v) (R.noSlot v) (R.noWaiter v))
     (R.pastEnd (v .held) v)
 
 step-is : (k : PendingKind) (out : ℕ) (v : R.Session) → step (callOf k out) v ≡ U.asks (kindOf k) out v
@@ -56,38 +60,34 @@ step-is kind.Finalize out v = refl
 
 rule-refuses : (k : R.PendingKind) (out : ℕ) (v : R.Session) (x : Refusal) → testsAt out v ≡ check.Refuse x → U.asks k out v ≡ R.answers (R.refused (numberOf x)) v
 unfolding U.asks R.closed R.unless
-rule-refuses k out v x e = Refused.refused v _ x _ e
+rule-refuses k out v x e = Rows.refused v _ x _ e
 
 rule-accepts : (k : R.PendingKind) (out : ℕ) (v : R.Session) → testsAt out v ≡ check.Go
     → U.asks k out v
     ≡ R.choose (heldAt v) (R.answers (R.sends (U.cutRequest (v .held) v)) (U.cuts (v .held) v))
     (R.answers (R.waits (U.requestFor k v) (suc (v .made))) (U.awaits k v))
 unfolding U.asks R.closed R.unless R.choose
-rule-accepts k out v e = Refused.passed v _ _ e
+rule-accepts k out v e = Rows.passed v _ _ e
 
 same-tests : (phase : ℕ) (finalized short : Bool) (cuts cuts′ full full′ slot slot′ waiter waiter′ past past′ : Bool) → cuts ≡ cuts′ → full ≡ full′ → slot ≡ slot′
     → waiter ≡ waiter′ → past ≡ past′
-    → testRows phase finalized true cuts short full (cond cuts slot waiter) past ≡ testRows phase finalized true cuts′ short full′ (cond cuts′ slot′ waiter′) past′
+    → uploadCheck phase finalized true cuts short full (cond cuts slot waiter) past ≡ uploadCheck phase finalized true cuts′ short full′ (cond cuts′ slot′ waiter′) past′
 same-tests phase finalized short cuts cuts′ full full′ slot slot′ waiter waiter′ past past′ e f g h i = rw (e, f, g, h, i)
 
 -- ---- a waiter
 
 pub record Waitable (s : Session) : Type 0 where
   pub live : R.isLive (phaseOf (s .phase)) ≡ true
-  pub waiting : s .worker .«pending_requests» .count < 16
+  pub waiting : s .worker .«pending_requests» .count < maxWaiters
   pub made : s .made < 2 ^ 64 - 1
-
-neither : (a b : Bool) → (a || b) ≡ false → (a ≡ false) × (b ≡ false)
-neither true b e = clash refl e
-neither false b e = (refl, e)
 
 pub waitable : (s : Session) (out : ℕ) → Asking s out false → Waitable s
 waitable s out t =
-    let no-waiter : Bool = leb 16 (s .worker .«pending_requests» .count) || leb (2 ^ 64 - 1) (s .made) in
+    let many : Bool = leb maxWaiters (s .worker .«pending_requests» .count) in
+    let last : Bool = leb (2 ^ 64 - 1) (s .made) in
     let p = passes (R.phaseNumber (phaseOf (s .phase))) (s .worker .finalized) true false (ltb out (s .limit))
-    (leb (s .worker .«replay_buffer» .capacity) (s .worker .«replay_buffer» .«unpersisted_bytes»)) no-waiter (ltb (2 ^ 63 - 1) (endOf s + s .held)) (t .goes) in
-    let n = neither _ _ (p .roomy) in
-    record { live = not-false _ (p .live); waiting = leb-false _ _ (n .0); made = leb-false _ _ (n .1) }
+    (leb (s .worker .«replay_buffer» .capacity) (s .worker .«replay_buffer» .«unpersisted_bytes»)) (many || last) (ltb (2 ^ 63 - 1) (endOf s + s .held)) (t .goes) in
+    record { live = not-false _ (p .live); waiting = leb-false _ _ (or-no-left many last (p .roomy)); made = leb-false _ _ (or-no-right many last (p .roomy)) }
 
 waiter-is : (k : PendingKind) (s : Session) (store : Bytes) (table : List ℕ) → pendingOf (waiterFor k s) ≡ U.waiterOf (kindOf k) (view s store table)
 unfolding view
@@ -132,7 +132,7 @@ module _ (k : PendingKind) (s : Session) (store : Bytes) (table : List ℕ) (out
   tests-are cuts e v =
       same-tests (R.phaseNumber (phaseOf (s .phase))) (s .worker .finalized) (ltb (length out) (s .limit)) _ cuts _ _ _ _ _ _ _ _
       (held-is ∙ sym e) (sym (full-is s store table v)) (sym (slot-is s store table v))
-      (ap (λ (n : ℕ). leb 16 n || leb (2 ^ 64 - 1) (s .made)) (v .waiting-is))
+      (ap (λ (n : ℕ). leb maxWaiters n || leb (2 ^ 64 - 1) (s .made)) (v .waiting-is))
       (sym (past-is s store table v (heldOf s store)) ∙ ap (λ (n : ℕ). ltb (2 ^ 63 - 1) (endOf s + n)) length-held-is)
 
   pub ask-refuses : (cuts : Bool) → cuts ≡ not (eqb (s .held) 0) → (x : Refusal) → askTests s (length out) cuts ≡ check.Refuse x
@@ -170,7 +170,7 @@ module _ (k : PendingKind) (s : Session) (store : Bytes) (table : List ℕ) (out
       ∙ rule-accepts (kindOf k) (length out) rule (tests-are false (t .cuts-is) v ∙ t .goes)
       ∙ rw (held-is, sym (t .cuts-is))
 
-  valid-waits : (q : PendingRequests) → length (waitersOf q) ≡ q .count → q .count ≤ 16 → R.isLive (phaseOf (s .phase)) ≡ true → Valid s store table
+  valid-waits : (q : PendingRequests) → length (waitersOf q) ≡ q .count → q .count ≤ maxWaiters → R.isLive (phaseOf (s .phase)) ≡ true → Valid s store table
       → Valid (awaiting k q s) store table
   valid-waits q e h live v = record {
     guarded = guarded-waiting (q .count) h (v .guarded);

@@ -2,35 +2,33 @@
 -- Assumes nothing.
 use mathlib.Core.Path.{_≡_, sym, ap, _∙_}
 use mathlib.Core.Bool.{Bool, true, false, not, _&&_}
-use mathlib.Core.List.{List, _∷_}
-use mathlib.Core.Logic.{⊎-elim}
+use mathlib.Core.List.{List}
 use Prim.Native.Nat.{ℕ, _+_, _-_, _<_, _≤_, _^_}
 use native.Mathlib.Omega.{arith}
-use borrow.Author.Tests.{ltb-false, leb-false, not-false, lt-ltb, le-ltb}
+use borrow.Author.Tests.{ltb-false, leb-false, not-false}
 use lib.Dec.{ltb, leb, eqb}
 use lib.IntN.{ℤ, pos, _+ℤ_, pos-+ℤ-pos}
 use lib.ListN.{length}
 use lib.Signed.{ltZ}
 use Rattle.rules.specs.Message.{Bytes}
 use Rattle.rules.specs.Session as R
-use Rattle.ring.proofs.Rot.{lt-or-ge}
 use Rattle.transport.specs.View.{phaseOf, endOf, view}
 use Rattle.transport.specs.Valid.{GuardedAt, Valid}
 use Rattle.transport.specs.Promise.{Promise}
-use Rattle.transport.specs.Check.{checked}
-use Rattle.uploads.specs.Upload.{testRows, tested, Cuttable}
+use Rattle.admission.specs.Rows.{uploadCheck, uploadTests}
+use Rattle.uploads.specs.Upload.{Cuttable}
 use Rattle.transport.specs.declared.Session.{Session}
-use Rattle.transport.specs.declared.Refusal.{Refusal}
-use Rattle.transport.specs.declared.Refusal.the-variants as refusal
+use Rattle.bidi_write.specs.declared.Refusal.the-variants as reason
 use Rattle.transport.specs.declared.Answer.the-variants as answer
-use Rattle.transport.specs.declared.Check.the-variants as check
-use Rattle.transport.proofs.Refused as Refused
+use Rattle.bidi_write.specs.declared.Check.the-variants as check
+use Rattle.bidi_write.proofs.Rows.{first-false, later}
+use Rattle.transport.proofs.Refused.{refusal}
 use Rattle.transport.proofs.Numbers.{offset-is}
 
 -- a record or memory that no call left
 pub unguarded : (c : R.Call) (s : Session) (store : Bytes) (table : List ℕ) (out : Bytes) → (GuardedAt s (length store) (length table) → ⊥)
-    → Promise c s store table out (record { session = s; answer = answer.Refused refusal.ShortMemory }) store table out
-unguarded c s store table out bad = Refused.refusal c s store table out refusal.ShortMemory (λ v. absurd (bad (v .guarded)))
+    → Promise c s store table out (record { session = s; answer = answer.Refused reason.ShortMemory }) store table out
+unguarded c s store table out bad = refusal c s store table out reason.ShortMemory (λ v. absurd (bad (v .guarded)))
 
 -- the same record with other bytes in a store of the same length
 pub valid-store : (s : Session) (store store′ : Bytes) (table : List ℕ) → length store′ ≡ length store → Valid s store table → Valid s store′ table
@@ -46,10 +44,6 @@ valid-store s store store′ table e v = record {
 
 -- ---- passed tests
 
-next-go : (b : Bool) (x : Refusal) (rs : List (Bool × Refusal)) → checked ((b, x) ∷ rs) ≡ check.Go → checked rs ≡ check.Go
-unfolding checked
-next-go b x rs e = rw (Refused.first-false b x rs e) at e
-
 pub record Passes (phase : ℕ) (sends cuts short full room past : Bool) : Type 0 where
   pub live : (sends && not (eqb phase 1)) ≡ false
   pub out-in : (cuts && short) ≡ false
@@ -57,25 +51,25 @@ pub record Passes (phase : ℕ) (sends cuts short full room past : Bool) : Type 
   pub roomy : room ≡ false
   pub near : (cuts && past) ≡ false
 
-pub passes : (phase : ℕ) (finalized sends cuts short full room past : Bool) → testRows phase finalized sends cuts short full room past ≡ check.Go
+pub passes : (phase : ℕ) (finalized sends cuts short full room past : Bool) → uploadCheck phase finalized sends cuts short full room past ≡ check.Go
     → Passes phase sends cuts short full room past
 passes phase finalized sends cuts short full room past e =
-    let closed = next-go _ _ _ e in
-    let live = next-go _ _ _ closed in
-    let out = next-go _ _ _ (next-go _ _ _ (next-go _ _ _ live)) in
-    let below = next-go _ _ _ out in
-    let roomy = next-go _ _ _ below in
+    let live = later _ _ _ (later _ _ _ e) in
+    let out = later _ _ _ live in
+    let below = later _ _ _ out in
+    let roomy = later _ _ _ below in
     record {
-      live = Refused.first-false _ _ _ live;
-      out-in = Refused.first-false _ _ _ out;
-      below = Refused.first-false _ _ _ below;
-      roomy = Refused.first-false _ _ _ roomy;
-      near = Refused.first-false _ _ _ (next-go _ _ _ roomy);
+      live = first-false _ _ _ live;
+      out-in = first-false _ _ _ out;
+      below = first-false _ _ _ below;
+      roomy = first-false _ _ _ roomy;
+      near = first-false _ _ _ (later _ _ _ roomy);
     }
 
 -- a call that cuts has passed them
 pub cuttable : (s : Session) (n out : ℕ)
-    → tested (R.phaseNumber (phaseOf (s .phase))) (s .worker .finalized) (s .limit) (s .worker .«replay_buffer») (s .«write_offset» .0) true true n out
+    → uploadTests (R.phaseNumber (phaseOf (s .phase))) (s .worker .finalized) (s .limit) (s .worker .«replay_buffer» .capacity)
+    (s .worker .«replay_buffer» .«unpersisted_bytes») (s .«write_offset» .0) true true n out
     (leb (s .slots) (s .worker .«replay_buffer» .chunks)) ≡ check.Go
     → n ≤ s .limit → Cuttable s n out
 cuttable s n out e h =
@@ -92,14 +86,6 @@ cuttable s n out e h =
     }
 
 -- ---- "a chunk would end past 2^63 − 1"
-
--- a difference that does not wrap tests the sum
-pub far-is : (e n : ℕ) → e < 2 ^ 63 → ltb (2 ^ 63 - 1 - e) n ≡ ltb (2 ^ 63 - 1) (e + n)
-far-is e n h =
-    ⊎-elim
-    (λ (l : 2 ^ 63 - 1 - e < n). lt-ltb (2 ^ 63 - 1 - e) n l ∙ sym (lt-ltb (2 ^ 63 - 1) (e + n) (omega arith)))
-    (λ (g : n ≤ 2 ^ 63 - 1 - e). le-ltb (2 ^ 63 - 1 - e) n g ∙ sym (le-ltb (2 ^ 63 - 1) (e + n) (omega arith)))
-    (lt-or-ge (2 ^ 63 - 1 - e) n)
 
 pub past-is : (s : Session) (store : Bytes) (table : List ℕ) → Valid s store table → (b : Bytes)
     → ltb (2 ^ 63 - 1) (endOf s + length b) ≡ R.pastEnd b (view s store table)

@@ -7,6 +7,7 @@ use Prim.Native.Nat.{ℕ, _+_, _*_, _-_, _<_, _≤_, _^_, min}
 use lib.ListN.{length, take, drop}
 use lib.Dec.{leb, ltb, eqb}
 use lib.IntN.{ℤ, pos}
+use Rattle.rules.specs.Limits.{maxWaiters}
 use Rattle.crc32c.specs.Reg.{crcOf, joined}
 use Rattle.rules.specs.Message.{Bytes}
 use Rattle.rules.specs.Session as R
@@ -25,11 +26,11 @@ use Rattle.worker.specs.declared.PendingKind.the-variants as kind
 use Rattle.worker.specs.declared.PendingRequest.{PendingRequest}
 use Rattle.worker.specs.declared.PendingRequests.{PendingRequests}
 use Rattle.worker.specs.declared.Worker.{Worker}
+use Rattle.admission.specs.Rows.{uploadTests}
 use Rattle.transport.specs.View.{phaseOf, lentOf, endOf, view}
 use Rattle.transport.specs.Valid.{GuardedAt, Valid}
-use Rattle.transport.specs.Check.{checked, rows}
-use Rattle.transport.specs.declared.Check.{Check}
-use Rattle.transport.specs.declared.Check.the-variants as check
+use Rattle.bidi_write.specs.declared.Check.{Check}
+use Rattle.bidi_write.specs.declared.Check.the-variants as check
 use Rattle.transport.specs.declared.Session.{Session}
 use Rattle.transport.specs.declared.Sent.the-variants as sent
 use Rattle.uploads.specs.declared.cut.Sending.{Sending}
@@ -38,18 +39,6 @@ use Rattle.uploads.specs.declared.cut.Pushed.{Pushed}
 abbrev pub callOf : PendingKind → ℕ → R.Call
 callOf kind.Flush out = R.flush out
 callOf kind.Finalize out = R.finalise out
-
--- ---- the tests
-
--- the refusals of a call that sends or not, and cuts a chunk or not: the last four tests are given
-abbrev pub testRows : (phase : ℕ) (finalized sends cuts short full room past : Bool) → Check
-testRows phase finalized sends cuts short full room past =
-    checked (rows (eqb phase 6) (eqb phase 5 || finalized) (sends && not (eqb phase 1)) false false (cuts && short) (sends && full) room (cuts && past))
-
--- by the record's numbers, for a chunk of n bytes
-abbrev pub tested : (phase : ℕ) (finalized : Bool) (limit : ℕ) (b : ReplayBuffer) (offset : ℤ) (sends cuts : Bool) (n out : ℕ) (room : Bool) → Check
-tested phase finalized limit b offset sends cuts n out room =
-    testRows phase finalized sends cuts (ltb out limit) (leb (b .capacity) (b .«unpersisted_bytes»)) room (ltb (2 ^ 63 - 1) (toℕ offset + n))
 
 -- ---- a cut
 
@@ -127,7 +116,8 @@ pub record Cuts (s : Session) (n : ℕ) (store : Bytes) (table : List ℕ) (out 
 
 abbrev pub appendTests : Session → (n out : ℕ) → Bool → Check
 appendTests s n out cuts =
-    tested (R.phaseNumber (phaseOf (s .phase))) (s .worker .finalized) (s .limit) (s .worker .«replay_buffer») (s .«write_offset» .0) cuts cuts (s .held + n) out
+    uploadTests (R.phaseNumber (phaseOf (s .phase))) (s .worker .finalized) (s .limit) (s .worker .«replay_buffer» .capacity)
+    (s .worker .«replay_buffer» .«unpersisted_bytes») (s .«write_offset» .0) cuts cuts (s .held + n) out
     (cuts && leb (s .slots) (s .worker .«replay_buffer» .chunks))
 
 -- an append of the first n bytes of d, which cuts a chunk or not, goes on
@@ -155,8 +145,9 @@ holding n s = record {
 
 abbrev pub askTests : Session → (out : ℕ) → Bool → Check
 askTests s out cuts =
-    tested (R.phaseNumber (phaseOf (s .phase))) (s .worker .finalized) (s .limit) (s .worker .«replay_buffer») (s .«write_offset» .0) true cuts (s .held) out
-    (cond cuts (leb (s .slots) (s .worker .«replay_buffer» .chunks)) (leb 16 (s .worker .«pending_requests» .count) || leb (2 ^ 64 - 1) (s .made)))
+    uploadTests (R.phaseNumber (phaseOf (s .phase))) (s .worker .finalized) (s .limit) (s .worker .«replay_buffer» .capacity)
+    (s .worker .«replay_buffer» .«unpersisted_bytes») (s .«write_offset» .0) true cuts (s .held) out
+    (cond cuts (leb (s .slots) (s .worker .«replay_buffer» .chunks)) (leb maxWaiters (s .worker .«pending_requests» .count) || leb (2 ^ 64 - 1) (s .made)))
 
 pub record Asking (s : Session) (out : ℕ) (cuts : Bool) : Type 0 where
   pub cuts-is : cuts ≡ not (eqb (s .held) 0)

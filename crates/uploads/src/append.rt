@@ -8,13 +8,12 @@ ghost use Rattle.transport.specs.Valid.{GuardedAt};
 ghost use Rattle.transport.specs.Promise.{Promise};
 ghost use Rattle.uploads.specs.Upload.{holding, Taking};
 use crate::cut::cut;
-use crate::cut::only_if;
-use crate::cut::tests;
+use bidi_write::Check;
+use bidi_write::Refusal;
+use bidi_write::both;
 use transport::Answer;
-use transport::Check;
 use transport::MaybeRequest;
 use transport::Outcome;
-use transport::Refusal;
 use transport::Sent;
 use transport::Session;
 use transport::guard::guard;
@@ -66,12 +65,13 @@ fn append_guarded(
     let finalized = s.worker.finalized;
     let n = coalescing_buffer::room(held, limit, data.len());
     let cuts = coalescing_buffer::fills(held, limit, n);
-    let no_room = only_if(cuts, s.slots <= b.chunks);
-    let way = tests(
+    let no_room = both(cuts, s.slots <= b.chunks);
+    let way = admission::upload(
         phase,
         finalized,
         limit,
-        b,
+        b.capacity,
+        b.unpersisted_bytes,
         write_offset,
         cuts,
         cuts,
@@ -104,7 +104,7 @@ fn take(
 {
     let held = s.held;
     let b = s.worker.replay_buffer;
-    let size = b.capacity + 2 * s.limit - 2;
+    let size = replay_buffer::ring_size(b.capacity, s.limit);
     coalescing_buffer::extend(store, size, b.head, b.unpersisted_bytes, held, data, n);
     if cuts {
         let c = cut(s, store, table, out, held + n);

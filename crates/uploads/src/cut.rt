@@ -1,25 +1,19 @@
 // Ported from google-cloud-storage 1.21.0, src/storage/bidi_write/transport.rs and worker.rs (Apache-2.0); changed: no tasks, channels or heap.
-// What append, flush and finalise share: their tests, and the cut of a chunk.
+// What append, flush and finalise share: the cut of a chunk.
 ghost use mathlib.Core.Path.{_≡_};
-ghost use mathlib.Core.Bool.{_&&_, _||_};
-ghost use Prim.Native.Nat.{_+_, _-_, _<_, _≤_, _^_};
-ghost use lib.Dec.{eqb, ltb};
+ghost use Prim.Native.Nat.{_+_, _<_, _≤_, _^_};
 ghost use lib.ListN.{length};
 ghost use Rattle.ring.specs.Ring.{Within};
 ghost use Rattle.bidi_write.specs.Numbers.{toℕ};
 ghost use Rattle.replay_buffer.specs.Push.{Room};
-ghost use Rattle.uploads.specs.Upload.{tested, CutRoom, Cuts, CutBytes, CutSession, storing, joinedTo};
+ghost use Rattle.uploads.specs.Upload.{CutRoom, Cuts, CutBytes, CutSession, storing, joinedTo};
 use bidi_write::Checksum;
 use bidi_write::Offset;
 use bidi_write::Request;
+use bidi_write::either;
 use replay_buffer::ReplayBuffer;
-use transport::Check;
 use transport::Sent;
 use transport::Session;
-use transport::checks::check;
-use transport::phases::CLOSING;
-use transport::phases::ENDED;
-use transport::phases::LIVE;
 use worker::Worker;
 
 // The session after a call that sends, and the request.
@@ -34,67 +28,6 @@ struct Pushed {
     crc32c: u32,
 }
 
-// ---- the tests
-
-// A test, where it applies.
-pub fn only_if(applies: bool, test: bool) -> bool
-    ensures { λ r. ⌜ r ≡ (applies && test) ⌝ }
-{
-    applies && test
-}
-
-// "After close or a finalise's waiter."
-fn is_closed(phase: u8, finalized: bool) -> bool
-    ensures { λ r. ⌜ r ≡ (eqb phase 5 || finalized) ⌝ }
-{
-    if phase == CLOSING {
-        return true;
-    }
-    finalized
-}
-
-// "A chunk would end past 2^63 − 1": one of n bytes at the write offset.
-fn past_end(write_offset: Offset, n: usize) -> bool
-    ensures { λ r. ⌜ r ≡ ltb (2 ^ 63 - 1) (toℕ («write_offset» .0) + n) ⌝ }
-{
-    0x7fff_ffff_ffff_ffff - bidi_write::to_nat(write_offset) < n as u64
-}
-
-// The refusals of a call that sends or not, and cuts a chunk of n bytes or not. `no_room`: for its chunk, or for its waiter.
-pub fn tests(
-    phase: u8,
-    finalized: bool,
-    limit: usize,
-    b: ReplayBuffer,
-    write_offset: Offset,
-    sends: bool,
-    cuts: bool,
-    n: usize,
-    out: usize,
-    no_room: bool,
-) -> Check
-    ensures { λ r. ⌜ r ≡ tested phase finalized limit b («write_offset» .0) sends cuts n out «no_room» ⌝ }
-{
-    let closed = is_closed(phase, finalized);
-    let wrong_phase = only_if(sends, phase != LIVE);
-    let short_out = only_if(cuts, out < limit);
-    let full = only_if(sends, replay_buffer::is_full(b));
-    let past = only_if(cuts, past_end(write_offset, n));
-    check(
-        phase == ENDED,
-        closed,
-        wrong_phase,
-        false,
-        false,
-        short_out,
-        full,
-        no_room,
-        past,
-    )
-}
-
-// ---- the cut
-
 // The n bytes behind the stored ones are cut as a chunk: its bytes go to the front of out.
 pub fn cut(s: Session, store: &[u8], table: &mut [u64], out: &mut [u8], n: usize) -> Sending
     requires { ⌜ CutRoom s n (length (now store)) (length (now table)) (length (now out)) ⌝ }
@@ -103,7 +36,7 @@ pub fn cut(s: Session, store: &[u8], table: &mut [u64], out: &mut [u8], n: usize
     let limit = s.limit;
     let slots = s.slots;
     let b = s.worker.replay_buffer;
-    let size = b.capacity + 2 * limit - 2;
+    let size = replay_buffer::ring_size(b.capacity, limit);
     let p = cut_bytes(b, store, size, table, slots, out, n);
     let after = p.replay_buffer;
     cut_session(s, after, p.crc32c, n)
@@ -190,7 +123,7 @@ fn store_chunk(w: Worker, b: ReplayBuffer, flush: bool) -> Worker
     let pending_requests = w.pending_requests;
     let persisted_size = w.persisted_size;
     let finalized = w.finalized;
-    let self_flush_outstanding = marks(w.self_flush_outstanding, flush);
+    let self_flush_outstanding = either(w.self_flush_outstanding, flush);
     Worker {
         connector,
         replay_buffer: b,
@@ -199,11 +132,4 @@ fn store_chunk(w: Worker, b: ReplayBuffer, flush: bool) -> Worker
         finalized,
         self_flush_outstanding,
     }
-}
-
-// Whether an own flush is outstanding: it was, or one is sent.
-fn marks(outstanding: bool, flush: bool) -> bool
-    ensures { λ r. ⌜ r ≡ (outstanding || flush) ⌝ }
-{
-    outstanding || flush
 }

@@ -5,6 +5,7 @@ ghost use mathlib.Core.Bool.{cond, _||_};
 ghost use Prim.Native.Nat.{_<_, _-_, _^_};
 ghost use lib.Dec.{leb};
 ghost use lib.ListN.{length};
+ghost use Rattle.rules.specs.Limits.{maxWaiters};
 ghost use Rattle.rules.specs.Session as R;
 ghost use Rattle.transport.specs.Valid.{GuardedAt};
 ghost use Rattle.transport.specs.Promise.{Promise};
@@ -13,15 +14,15 @@ ghost use Rattle.worker.specs.View.{kindOf};
 ghost use Rattle.uploads.specs.Upload.{callOf, Asking, Awaits};
 use crate::cut::Sending;
 use crate::cut::cut;
-use crate::cut::tests;
+use bidi_write::Check;
+use bidi_write::Refusal;
 use transport::Answer;
-use transport::Check;
 use transport::Outcome;
-use transport::Refusal;
 use transport::Sent;
 use transport::Session;
 use transport::guard::guard;
 use transport::phases::phase_number;
+use worker::MAX_PENDING;
 use worker::PendingKind;
 use worker::PendingRequest;
 
@@ -68,11 +69,12 @@ fn ask_guarded(
     let finalized = s.worker.finalized;
     let cuts = held != 0;
     let no_room = lacks_room(cuts, s.slots, b.chunks, q.count, s.made);
-    let way = tests(
+    let way = admission::upload(
         phase,
         finalized,
         s.limit,
-        b,
+        b.capacity,
+        b.unpersisted_bytes,
         write_offset,
         true,
         cuts,
@@ -91,12 +93,12 @@ fn ask_guarded(
 
 // "No free chunk slot" for a chunk; "16 waiters wait, or 2^64 − 1 were made" for a waiter.
 fn lacks_room(cuts: bool, slots: usize, chunks: usize, waiting: usize, made: u64) -> bool
-    ensures { λ r. ⌜ r ≡ cond cuts (leb slots chunks) (leb 16 waiting || leb (2 ^ 64 - 1) made) ⌝ }
+    ensures { λ r. ⌜ r ≡ cond cuts (leb slots chunks) (leb maxWaiters waiting || leb (2 ^ 64 - 1) made) ⌝ }
 {
     if cuts {
         return slots <= chunks;
     }
-    if 16 <= waiting {
+    if MAX_PENDING <= waiting {
         return true;
     }
     0xffff_ffff_ffff_ffff <= made
@@ -135,7 +137,7 @@ fn send(
 
 // The session with a waiter more, and the request that it waits for.
 fn wait(kind: PendingKind, s: Session) -> Sending
-    requires { ⌜ (s .worker .«pending_requests» .count < 16) × (s .made < 2 ^ 64 - 1) ⌝ }
+    requires { ⌜ (s .worker .«pending_requests» .count < maxWaiters) × (s .made < 2 ^ 64 - 1) ⌝ }
     ensures { λ r. ⌜ Awaits kind s r ⌝ }
 {
     let phase = s.phase;

@@ -8,8 +8,11 @@ use Rattle.transport.proofs.close.close.Tie as tie
 phase-number-requires : tie.Need-phase-number-requires
 phase-number-requires c κs = search needs
 
-check-requires : tie.Need-check-requires
-check-requires c κs = search needs
+is-full-requires : tie.Need-is-full-requires
+is-full-requires c κs = search needs
+
+close-requires : tie.Need-close-requires
+close-requires c κs = search needs
 
 enum-known-way : tie.Need-enum-known-way
 enum-known-way c = search needs
@@ -22,24 +25,28 @@ set-phase-requires c κs = search needs
 
 returns : tie.Need-returns
 returns c =
-    λ store table.
-    let before = c .before .before .before .before .before .before in
-    close-refuses (before .before .args .s) store table (before .phase-number .result) (before .phase-number .ensures) _
-    (sym (c .before .before .before .check .ensures) ∙ c .before .way .given .1)
+    λ store table out.
+    let at-admit = c .before .before .before in
+    let at-phase = at-admit .before .before .before in
+    close-refuses (at-phase .before .args .s) store table out (at-phase .phase-number .result) (at-phase .phase-number .ensures) _
+    (rw (at-admit .before .is-full .ensures) at (sym (at-admit .close .ensures) ∙ c .before .way .given .1))
 
 returns-2 : tie.Need-returns-2
 returns-2 c =
-    λ store table.
-    let before = c .before .before .before .before .before .before in
+    λ store table out.
+    let at-admit = c .before .before .before in
+    let at-phase = at-admit .before .before .before in
     rw (c .set-phase .ensures)
-    (close-accepts (before .before .args .s) store table (before .phase-number .result) (before .phase-number .ensures) (cc))
+    (close-accepts (at-phase .before .args .s) store table out (at-phase .phase-number .result) (at-phase .phase-number .ensures)
+    (rw (at-admit .before .is-full .ensures) at (sym (at-admit .close .ensures) ∙ c .before .enum-told .given .1)))
 
 pub close-spec : {M : Type 1} → statement M
 close-spec =
     tie.close
     (tie.spec
     phase-number-requires
-    check-requires
+    is-full-requires
+    close-requires
     enum-known-way
     enum-told
     set-phase-requires

@@ -2,7 +2,8 @@
 use mathlib.Core.Path.{sym, _∙_}
 use native.Mathlib.Omega.{arith}
 use borrow.Author.Needs.{needs}
-use Rattle.transport.proofs.Tests.{clash, refuse, accept}
+use Rattle.rules.proofs.Tests.{clash}
+use Rattle.transport.proofs.Tests.{refuse, accept}
 use Rattle.transport.proofs.guard.within.Statement.{statement}
 use Rattle.transport.proofs.guard.within.Tie as tie
 
@@ -21,23 +22,17 @@ returns-3 c = refuse (λ p. omega arith)
 returns-4 : tie.Need-returns-4
 returns-4 c = refuse (λ p. omega arith)
 
-mul-size : tie.Need-mul-size
-mul-size c = search needs
-
-add-size : tie.Need-add-size
-add-size c = search needs
-
-sub-size : tie.Need-sub-size
-sub-size c = search needs
+ring-size-requires : tie.Need-ring-size-requires
+ring-size-requires c κs = search needs
 
 returns-5 : tie.Need-returns-5
-returns-5 c = refuse (λ p. omega arith)
+returns-5 c = refuse (λ p. omega (arith, c .before .ring-size .ensures (p .capacity-top) (p .limit-top)))
 
 returns-6 : tie.Need-returns-6
 returns-6 c = refuse (λ p. omega arith)
 
 returns-7 : tie.Need-returns-7
-returns-7 c = refuse (λ p. omega arith)
+returns-7 c = refuse (λ p. omega (arith, c .before .before .before .before .ring-size .ensures (p .capacity-top) (p .limit-top)))
 
 add-if8 : tie.Need-add-if8
 add-if8 c = search needs
@@ -71,14 +66,15 @@ returns-14 c = refuse (λ p. omega arith)
 
 returns-15 : tie.Need-returns-15
 returns-15 c =
+    let size = c .before .before .before .before .before .before .before .before .before .before .before .before .before .before .before .ring-size .ensures (omega arith) (omega arith) in
     accept (record {
       limit-some = omega arith;
       limit-top = omega arith;
       capacity-low = omega arith;
       capacity-top = omega arith;
-      store-lent = omega arith;
+      store-lent = omega (arith, size);
       table-lent = omega arith;
-      head-in = omega arith;
+      head-in = omega (arith, size);
       stored-in = omega arith;
       held-in = omega arith;
       first-in = omega arith;
@@ -98,9 +94,7 @@ within-spec =
     mul-if3
     returns-3
     returns-4
-    mul-size
-    add-size
-    sub-size
+    ring-size-requires
     returns-5
     returns-6
     returns-7

@@ -1,6 +1,6 @@
 -- `transport::parts::end` meets its contract.
 use borrow.Author.Needs.{needs}
-use Rattle.transport.proofs.Ending.{ends-as}
+use Rattle.transport.proofs.Ends.{ends-as}
 use Rattle.transport.proofs.parts.end.Statement.{statement}
 use Rattle.transport.proofs.parts.end.Tie as tie
 

@@ -3,16 +3,16 @@ use mathlib.Core.Path.{_≡_, sym, _∙_}
 use borrow.Author.Needs.{needs}
 use lib.ListN.{length}
 use Rattle.uploads.specs.Upload.{appendTests}
-use Rattle.transport.specs.declared.Check.{Check}
-use Rattle.transport.specs.declared.Check.the-variants as check
+use Rattle.bidi_write.specs.declared.Check.{Check}
+use Rattle.bidi_write.specs.declared.Check.the-variants as check
 use Rattle.uploads.proofs.Appending.{append-refuses}
 use Rattle.uploads.proofs.append.append_guarded.Statement.{statement}
 use Rattle.uploads.proofs.append.append_guarded.Tie as tie
 
 -- what the tests come to, by the record's numbers
-tested-as : (c : tie.After-tests) (o : Check) → c .tests .result ≡ o
+tested-as : (c : tie.After-upload) (o : Check) → c .upload .result ≡ o
     → appendTests (c .before .before .before .before .before .before .before .before .before .before .before .before .before .args .s) (c .before .before .before .before .before .room .result) (length (c .before .before .before .before .before .before .before .before .before .before .before .before .before .args .out .now)) (c .before .before .before .before .fills .result) ≡ o
-tested-as c o e = rw (sym (c .before .before .before .before .before .before .phase-number .ensures), sym (c .before .only-if .ensures)) (sym (c .tests .ensures) ∙ e)
+tested-as c o e = rw (sym (c .before .before .before .before .before .before .phase-number .ensures), sym (c .before .both .ensures)) (sym (c .upload .ensures) ∙ e)
 
 phase-number-requires : tie.Need-phase-number-requires
 phase-number-requires c κs = search needs
@@ -23,14 +23,14 @@ room-requires c κs = search needs
 fills-requires : tie.Need-fills-requires
 fills-requires c κs = search needs
 
-only-if-requires : tie.Need-only-if-requires
-only-if-requires c κs = search needs
+both-requires : tie.Need-both-requires
+both-requires c κs = search needs
 
-add-tests : tie.Need-add-tests
-add-tests c = search needs
+add-upload : tie.Need-add-upload
+add-upload c = search needs
 
-tests-requires : tie.Need-tests-requires
-tests-requires c κs = search needs
+upload-requires : tie.Need-upload-requires
+upload-requires c κs = search needs
 
 enum-known-way : tie.Need-enum-known-way
 enum-known-way c = search needs
@@ -76,9 +76,9 @@ append-guarded-spec =
     phase-number-requires
     room-requires
     fills-requires
-    only-if-requires
-    add-tests
-    tests-requires
+    both-requires
+    add-upload
+    upload-requires
     enum-known-way
     enum-told
     take-requires

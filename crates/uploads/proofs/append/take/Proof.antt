@@ -12,21 +12,17 @@ use Rattle.uploads.proofs.append.take.Tie as tie
 taking : (start : tie.Start) (b : Bool) → start .args .cuts ≡ b → Taking (start .args .s) (start .args .«data» .now) (length (start .args .out .now)) (start .args .n) b
 taking start b e = rw (sym e) (start .pre .1)
 
-mul-size : tie.Need-mul-size
-mul-size c = search needs
-
-add-size : tie.Need-add-size
-add-size c = search needs
-
-sub-size : tie.Need-sub-size
-sub-size c = search needs
+ring-size-requires : tie.Need-ring-size-requires
+ring-size-requires c κs = search needs
 
 extend-requires : tie.Need-extend-requires
 extend-requires c κs =
-    let start = c .before .before .before .before .before .before .before .before in
-    let a = start .args in (
-      take-within (a .s) _ _ (start .pre .0) (a .«data» .now) (length (a .out .now)) (a .n) (a .cuts) (start .pre .1),
-      take-given (a .s) _ _ (start .pre .0) (a .«data» .now) (length (a .out .now)) (a .n) (a .cuts) (start .pre .1),
+    let at-size = c .before in
+    let start = at-size .before .before .before .before .before .before in
+    let a = start .args in
+    let g = start .pre .0 in (
+      rw (at-size .ring-size .ensures (g .capacity-top) (g .limit-top)) (take-within (a .s) _ _ g (a .«data» .now) (length (a .out .now)) (a .n) (a .cuts) (start .pre .1)),
+      take-given (a .s) _ _ g (a .«data» .now) (length (a .out .now)) (a .n) (a .cuts) (start .pre .1),
     )
 
 add-cut : tie.Need-add-cut
@@ -34,7 +30,7 @@ add-cut c = search needs
 
 cut-requires : tie.Need-cut-requires
 cut-requires c κs =
-    let start = c .before .before .before .before .before .before .before .before .before .before .before .before .before .before .before in
+    let start = c .before .before .before .before .before .before .before .before .before .before .before .before .before .before in
     let a = start .args in
     take-cuts (a .s) _ _ (rw (c .before .before .before .before .before .before .extend .kept .0) (start .pre .0)) (a .«data» .now) (length (a .out .now)) (a .n) (taking start true (c .before .before .before .if1 .taken))
 
@@ -49,11 +45,14 @@ same-length-3 c = search needs
 
 returns : tie.Need-returns
 returns c =
-    let start = c .before .before .before .before .before .before .before .before .before .before .before .before .before .before .before .before .before .before .before .before .before .before in
+    let at-size = c .before .before .before .before .before .before .before .before .before .before .before .before .before .before .before in
+    let start = at-size .before .before .before .before .before .before in
     let a = start .args in
+    let g = start .pre .0 in
     let e = c .before .before .before .before .before .before .before .before .before .before .before .before .before .extend in
     let k = c .before .before .before .before .before .before .cut in
-    append-cuts (a .s) (a .store .now) (a .table .now) (a .out .now) (start .pre .0) (a .«data» .now) (a .n) (start .pre .1 .taken) (e .last .0) (e .ensures) (e .kept .0)
+    append-cuts (a .s) (a .store .now) (a .table .now) (a .out .now) g (a .«data» .now) (a .n) (start .pre .1 .taken) (e .last .0)
+    (rw (at-size .ring-size .ensures (g .capacity-top) (g .limit-top)) at (e .ensures)) (e .kept .0)
     (taking start true (c .before .before .before .before .before .before .before .before .before .before .if1 .taken)) (k .result) (k .last .1 .1 .0) (k .last .1 .1 .1 .0) (k .ensures)
 
 add-hold : tie.Need-add-hold
@@ -67,20 +66,21 @@ same-length-4 c = search needs
 
 returns-2 : tie.Need-returns-2
 returns-2 c =
-    let start = c .before .before .before .before .before .before .before .before .before .before .before .before .before in
+    let at-size = c .before .before .before .before .before .before in
+    let start = at-size .before .before .before .before .before .before in
     let a = start .args in
+    let g = start .pre .0 in
     let e = c .before .before .before .before .extend in
     rw (c .hold .ensures)
-    (append-holds (a .s) (a .store .now) (a .table .now) (a .out .now) (start .pre .0) (a .«data» .now) (a .n) (start .pre .1 .taken) (e .last .0) (e .ensures) (e .kept .0)
+    (append-holds (a .s) (a .store .now) (a .table .now) (a .out .now) g (a .«data» .now) (a .n) (start .pre .1 .taken) (e .last .0)
+    (rw (at-size .ring-size .ensures (g .capacity-top) (g .limit-top)) at (e .ensures)) (e .kept .0)
     (taking start false (c .before .if1 .left)))
 
 pub take-spec : {M : Type 1} → statement M
 take-spec =
     tie.close
     (tie.spec
-    mul-size
-    add-size
-    sub-size
+    ring-size-requires
     extend-requires
     add-cut
     cut-requires

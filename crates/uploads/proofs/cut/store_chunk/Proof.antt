@@ -3,11 +3,11 @@ use borrow.Author.Needs.{needs}
 use Rattle.uploads.proofs.cut.store_chunk.Statement.{statement}
 use Rattle.uploads.proofs.cut.store_chunk.Tie as tie
 
-marks-requires : tie.Need-marks-requires
-marks-requires c κs = search needs
+either-requires : tie.Need-either-requires
+either-requires c κs = search needs
 
 returns : tie.Need-returns
-returns c = rw (c .marks .ensures)
+returns c = rw (c .either .ensures)
 
 pub store-chunk-spec : {M : Type 1} → statement M
-store-chunk-spec = tie.close (tie.spec marks-requires returns)
+store-chunk-spec = tie.close (tie.spec either-requires returns)

@@ -5,16 +5,16 @@ use borrow.Author.Needs.{needs}
 use lib.Dec.{eqb}
 use lib.ListN.{length}
 use Rattle.uploads.specs.Upload.{askTests}
-use Rattle.transport.specs.declared.Check.{Check}
-use Rattle.transport.specs.declared.Check.the-variants as check
+use Rattle.bidi_write.specs.declared.Check.{Check}
+use Rattle.bidi_write.specs.declared.Check.the-variants as check
 use Rattle.uploads.proofs.Asking.{ask-refuses}
 use Rattle.uploads.proofs.flush.ask_guarded.Statement.{statement}
 use Rattle.uploads.proofs.flush.ask_guarded.Tie as tie
 
 -- what the tests come to, by the record's numbers
-tested-as : (c : tie.After-tests) (o : Check) → c .tests .result ≡ o
+tested-as : (c : tie.After-upload) (o : Check) → c .upload .result ≡ o
     → askTests (c .before .before .before .before .before .before .before .before .before .args .s) (length (c .before .before .before .before .before .before .before .before .before .args .out .now)) (not (eqb (c .before .before .before .before .before .before .before .before .before .args .s .held) 0)) ≡ o
-tested-as c o e = rw (sym (c .before .before .phase-number .ensures), sym (c .before .lacks-room .ensures)) (sym (c .tests .ensures) ∙ e)
+tested-as c o e = rw (sym (c .before .before .phase-number .ensures), sym (c .before .lacks-room .ensures)) (sym (c .upload .ensures) ∙ e)
 
 phase-number-requires : tie.Need-phase-number-requires
 phase-number-requires c κs = search needs
@@ -22,8 +22,8 @@ phase-number-requires c κs = search needs
 lacks-room-requires : tie.Need-lacks-room-requires
 lacks-room-requires c κs = search needs
 
-tests-requires : tie.Need-tests-requires
-tests-requires c κs = search needs
+upload-requires : tie.Need-upload-requires
+upload-requires c κs = search needs
 
 enum-known-way : tie.Need-enum-known-way
 enum-known-way c = search needs
@@ -56,7 +56,7 @@ ask-guarded-spec =
     (tie.spec
     phase-number-requires
     lacks-room-requires
-    tests-requires
+    upload-requires
     enum-known-way
     enum-told
     send-requires

@@ -1,0 +1,49 @@
+-- `openings::open` meets its contract: a law of `Openings` at each return.
+use Rattle.openings.proofs.Openings.{opens-refused, opens-accepted}
+use borrow.Author.Needs.{needs}
+use Rattle.openings.proofs.open.Statement.{statement}
+use Rattle.openings.proofs.open.Tie as tie
+
+admit-requires : tie.Need-admit-requires
+admit-requires c κs = search needs
+
+enum-known-way : tie.Need-enum-known-way
+enum-known-way c = search needs
+
+unopened-requires : tie.Need-unopened-requires
+unopened-requires c κs = search needs
+
+enum-told : tie.Need-enum-told
+enum-told c = search needs
+
+start-requires : tie.Need-start-requires
+start-requires c κs = c .before .before .before .before .admit .ensures .admitted (c .before .before .enum-told .given .1)
+
+returns : tie.Need-returns
+returns c = opens-refused (c .before .before .before .before .admit .ensures) (c .before .before .way .given .1) (c .unopened .ensures)
+
+same-length : tie.Need-same-length
+same-length c = search needs
+
+same-length-2 : tie.Need-same-length-2
+same-length-2 c = search needs
+
+returns-2 : tie.Need-returns-2
+returns-2 c =
+    let started = c .before .before .before .before in
+    let told = started .before .before .before in
+    opens-accepted (told .before .before .admit .ensures) (told .enum-told .given .1) (started .start .ensures)
+
+pub open-spec : {M : Type 1} → statement M
+open-spec =
+    tie.close
+    (tie.spec
+    admit-requires
+    enum-known-way
+    unopened-requires
+    enum-told
+    start-requires
+    returns
+    same-length
+    same-length-2
+    returns-2)
