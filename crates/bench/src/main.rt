@@ -2,5 +2,5 @@
 use libc::STDIN_FILENO;
 
 fn main() {
-    runs::run(STDIN_FILENO);
+    bench_run::run(STDIN_FILENO);
 }

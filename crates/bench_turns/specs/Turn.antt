@@ -1,0 +1,70 @@
+-- What a record of the bench program makes of the session.
+use mathlib.Core.Path.{_≡_}
+use mathlib.Core.Option.{none}
+use mathlib.Core.List.{List, [], _∷_}
+use Prim.Native.Nat.{ℕ, _≤_}
+use lib.ListN.{length, drop}
+use lib.IntN.{ℤ}
+use Rattle.rules.specs.Message.{Bytes, endOfStream}
+use Rattle.rules.specs.Session as R
+use Rattle.rules.specs.Points.{opening, sized}
+use Rattle.transport.specs.View.{answerOf}
+use Rattle.transport.specs.Promise.{Promise}
+use Rattle.transport.specs.declared.Answer.{Answer}
+use Rattle.transport.specs.declared.Outcome.{Outcome}
+use Rattle.bidi_write.specs.declared.Refusal.{Refusal}
+use Rattle.transport.specs.declared.Session.{Session}
+use Rattle.openings.specs.Opening.{Refuses, Accepts}
+use Rattle.openings.specs.declared.OpenAnswer.the-variants as opening-answer
+use Rattle.openings.specs.declared.Opened.{Opened}
+use Rattle.bench_records.specs.declared.CallRecord.{CallRecord}
+use Rattle.bench_records.specs.declared.CallRecord.the-variants as call
+use Rattle.bench_lines.specs.Text.{lineOf}
+use Rattle.bench_lines.specs.Example.{markOf, again}
+use Rattle.bench_turns.specs.declared.Rest.{Rest}
+use Rattle.bench_turns.specs.declared.Rest.the-variants as rest
+
+-- ---- an opening
+
+-- "store 32,768 bytes, 64 slots"
+abbrev pub Lent : Bytes → List ℕ → Type 0
+Lent store table = (length store ≡ 32768) × (length table ≡ 64)
+
+-- an OP record, with C, capacity and P, opens a session as the rules do
+pub record Opens (limit capacity : ℕ) (p : ℤ) (store : Bytes) (table : List ℕ) (r : Opened) (store′ : Bytes) (table′ : List ℕ) : Type 0 where
+  pub refuses : Lent store table → (x : Refusal) → r .answer ≡ opening-answer.Refused x
+      → Refuses (opening limit capacity p none) store table x (r .session) store′ table′
+  pub accepts : Lent store table → r .answer ≡ opening-answer.Opened → Accepts (opening limit capacity p none) store table (r .session) store′ table′
+
+-- ---- a call
+
+-- the call that a record makes, with an append's bytes and the length of the out buffer: "responses hold a size alone", "BR (end of stream)"
+abbrev pub callOf : CallRecord → Bytes → ℕ → R.Call
+callOf call.Append d out = R.append d out
+callOf call.Flush d out = R.flush out
+callOf call.Finalise d out = R.finalise out
+callOf call.Close d out = R.close
+callOf (call.Response n) d out = R.response (sized (n .0))
+callOf (call.Handshake n) d out = R.handshake (sized (n .0))
+callOf call.Break d out = R.break endOfStream
+callOf (call.Verdict v) d out = R.judge v
+callOf call.Next d out = R.nextRequest out
+
+-- a record's call keeps the promise of the call that it makes
+abbrev pub Makes : CallRecord → Bytes → Session → Bytes → List ℕ → Bytes → Outcome → Bytes → List ℕ → Bytes → Type 0
+Makes c d s store table out r store′ table′ out′ = Promise (callOf c d (length out)) s store table out r store′ table′ out′
+
+-- ---- what is still to be called, and its line
+
+abbrev pub restOf : Rest → CallRecord → Bytes → ℕ → List R.Call
+restOf (rest.From n) c d out = callOf c (drop n d) out ∷ []
+restOf rest.Nothing c d out = []
+
+-- "AP, FL and FI are called once, then again till done or refused"
+pub record Continues (c : CallRecord) (d : Bytes) (a : Answer) (r : Rest) : Type 0 where
+  pub rest-is : (n : ℕ) (out : Bytes) → restOf r c d n ≡ again (callOf c d n) (answerOf a out)
+  pub within : (n : ℕ) → r ≡ rest.From n → n ≤ length d
+
+-- the line that a record's call prints
+abbrev pub lineFor : CallRecord → Answer → Bytes → Bytes
+lineFor c a out = lineOf (markOf (callOf c [] 0)) (answerOf a out)
