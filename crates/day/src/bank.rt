@@ -1,53 +1,32 @@
 // The host: what it knows from answers and messages alone.
 use crate::chance::minus;
-use crate::server::Said;
+use admission::CLOSING;
+use admission::CONNECTING;
+use admission::ENDED;
+use admission::LIVE;
+use admission::REPLAY;
+use admission::VERDICT;
+use bidi_write::Break;
+use bidi_write::Call;
 use bidi_write::Cause;
 use bidi_write::Data;
 use bidi_write::Request;
 use std::num::wrapping_add_u64;
 use std::num::wrapping_add_usize;
 use transport::Answer;
-use transport::phases::CLOSING;
-use transport::phases::CONNECTING;
-use transport::phases::ENDED;
-use transport::phases::LIVE;
-use transport::phases::REPLAY;
-use transport::phases::VERDICT;
 
 // The tasks of a day are numbered from 1: its events, then finalise, then close.
 pub const EVENTS: u64 = 700;
 
-// What can go wrong, besides the refusals 1 to 13: the session ended too early, the desk waits with nothing on its way, too many calls.
-pub const ENDED_EARLY: u64 = 14;
+// What can go wrong, besides a refusal, which has its own number: the session ended too early, the desk waits with nothing on its way, too many calls.
+pub const ENDED_EARLY: u64 = 101;
 
-pub const STUCK: u64 = 15;
+pub const STUCK: u64 = 102;
 
-pub const TOO_MANY_CALLS: u64 = 16;
+pub const TOO_MANY_CALLS: u64 = 103;
 
-// A call of the host.
-pub enum Action {
-    // what is left of the event
-    Append,
-    Ask(Asked),
-    // a handshake, or a response
-    Message(bool, Said),
-    Other(Other),
-}
-
-pub enum Asked {
-    Flush,
-    Finalise,
-    NextRequest,
-}
-
-// Breaks and failed attempts by their kind.
-pub enum Other {
-    Close,
-    Break(u64),
-    Judge,
-    FailedAttempt(u64),
-    SendFailed,
-}
+// The verdict of a host that never gives up.
+pub const GO_ON: u8 = 1;
 
 pub struct Bank {
     // the session's phase, as the answers told it
@@ -123,6 +102,14 @@ impl Bank {
         self.waiter <= self.completed
     }
 
+    // Whether there is no call to make any more.
+    pub fn is_over(self) -> bool {
+        if self.trouble != 0 {
+            return true;
+        }
+        self.phase == ENDED
+    }
+
     // What went wrong today.
     pub fn verdict(self) -> u64 {
         if self.trouble != 0 {
@@ -134,11 +121,41 @@ impl Bank {
         0
     }
 
-    pub fn told(mut self, m: Said) -> Bank {
-        if self.stated < m.size {
-            self.stated = m.size;
+    // A message states this size.
+    pub fn told(mut self, size: u64) -> Bank {
+        if self.stated < size {
+            self.stated = size;
         }
         self
+    }
+
+    // ---- calls
+
+    // The host's own next call.
+    pub fn call(self) -> Call {
+        if self.unsent {
+            return Call::SendFailed;
+        }
+        let phase = self.phase;
+        match phase {
+            VERDICT => Call::Judge(GO_ON),
+            REPLAY => Call::NextRequest,
+            CLOSING => Call::Break(Break::EndOfStream),
+            _ => self.work(),
+        }
+    }
+
+    fn work(self) -> Call {
+        if self.taken < self.length {
+            return Call::Append;
+        }
+        if self.task <= EVENTS {
+            return Call::Flush;
+        }
+        if self.task == EVENTS + 1 {
+            return Call::Finalise;
+        }
+        Call::Close
     }
 
     // ---- answers
@@ -146,7 +163,7 @@ impl Bank {
     pub fn heard(mut self, a: Answer) -> Bank {
         match a {
             Answer::Refused(x) => {
-                self.trouble = lines::refusal_number(x);
+                self.trouble = bidi_write::refusal_number(x);
                 self
             }
             Answer::Took(n, _) => {
@@ -159,7 +176,7 @@ impl Bank {
                 self.waiter = n;
                 self
             }
-            Answer::Completes(k, _) => self.completing(k as u64),
+            Answer::Completes(c) => self.completing(c.waiters as u64),
             Answer::Attempt(_) => {
                 self.phase = VERDICT;
                 self
@@ -169,7 +186,10 @@ impl Bank {
                 self.phase = LIVE;
                 self
             }
-            Answer::Ends(cause, _, _) => self.ends(cause),
+            Answer::Ends(e) => {
+                let cause = e.cause;
+                self.ends(cause)
+            },
         }
     }
 

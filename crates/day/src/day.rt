@@ -1,55 +1,55 @@
-// A day: open, and then call after call until the session is closed.
+// A day: open, and then call after call until the session has ended. Here alone is the session.
 ghost use Prim.Native.Nat.{_≤_};
-use crate::calls;
-use crate::print;
-use crate::tally::Tally;
+use crate::message;
+use crate::server::RESOURCE;
+use crate::server::Said;
 use crate::world;
-use crate::world::Move;
 use crate::world::World;
-use transport::Session;
-use transport::phases::ENDED;
+use bidi_write::Checksum;
+use bidi_write::Generation;
+use bidi_write::Offset;
+use openings::Capacity;
+use openings::Opened;
+use openings::Opening;
+use state::Condition;
+
+// An event is one to three chunks; one of three reaches the watermark, 8,192 bytes.
+const LIMIT: usize = 4096;
+
+const CAPACITY: usize = 16384;
 
 // More calls than a day can need.
 const MOST_CALLS: u64 = 10000000;
 
-struct Passed {
-    session: Session,
-    world: World,
-}
-
-// Chunks of 4,096 bytes and a capacity of 16,384 take a store of 24,574 bytes. An event has at most 9,000.
-pub fn run(seed: u64, breaks: u64, tally: Tally) -> Tally {
+// The store is the ring's size, capacity + 2 * limit - 2. An event has at most 9,000 bytes.
+pub fn run(seed: u64, breaks: u64) -> World {
     let mut store = [0u8; 24574];
     let mut table = [0u64; 64];
     let mut out = [0u8; 4096];
     let mut event = [0u8; 9000];
-    let opened = calls::open(&mut store, &mut table);
-    let s = opened.session;
+    let opened = open(&mut store, &mut table);
+    let mut s = opened.session;
     let answer = opened.answer;
-    let w = world::new(seed, breaks, answer);
-    let begun = world::begin(w, &mut event);
-    let over = follow(s, &mut store, &mut table, &mut out, &mut event, begun);
-    let b = over.bank;
-    print::trouble(b.verdict());
-    tally.with(over)
-}
-
-fn follow(
-    s: Session,
-    store: &mut [u8],
-    table: &mut [u64],
-    out: &mut [u8],
-    event: &mut [u8],
-    w: World,
-) -> World {
-    let mut s = s;
-    let mut w = w;
+    let mut w = world::new(seed, breaks, answer, &mut event);
     let mut calls = MOST_CALLS;
     while 0 < calls {
-        let m = world::next(w, event);
-        let p = turn(s, store, table, out, event, m);
-        s = p.session;
-        w = p.world;
+        let next = world::next(w, &mut event);
+        let call = next.call;
+        w = next.world;
+        let data = rest(&event, w.bank.taken, w.bank.length);
+        let r = steps::step(
+            s,
+            call,
+            &mut store,
+            &mut table,
+            &mut out,
+            data,
+            b"token",
+            b"handle",
+        );
+        s = r.session;
+        let answer = r.answer;
+        w = world::heard(w, answer, &out);
         calls = calls_left(w, calls - 1);
     }
     w
@@ -59,37 +59,47 @@ fn follow(
 fn calls_left(w: World, calls: u64) -> u64
     ensures { λ r. ⌜ r ≤ calls ⌝ }
 {
-    let b = w.bank;
-    if b.trouble != 0 {
-        return 0;
-    }
-    if b.phase == ENDED {
+    if w.bank.is_over() {
         return 0;
     }
     calls
 }
 
-// The call, and what its answer leads to.
-fn turn(
-    s: Session,
-    store: &mut [u8],
-    table: &mut [u64],
-    out: &mut [u8],
-    event: &[u8],
-    m: Move,
-) -> Passed {
-    let action = m.action;
-    let w = m.world;
-    let b = w.bank;
-    let data = part(event, b.taken, b.length);
-    let r = calls::call(s, store, table, out, data, action);
-    let session = r.session;
-    let answer = r.answer;
-    let world = world::heard(w, answer, out);
-    Passed { session, world }
+// A new object, which the response names.
+fn open(store: &mut [u8], table: &mut [u64]) -> Opened {
+    let o = Opening {
+        limit: LIMIT,
+        capacity: Capacity::Asked(CAPACITY),
+        append: false,
+        generation: Generation(0),
+        has_write_handle: false,
+        has_routing_token: false,
+        if_metageneration_match: Condition::Absent,
+        if_metageneration_not_match: Condition::Absent,
+        response: message::response(Said {
+            kind: RESOURCE,
+            size: 0,
+        }),
+        checksum: Checksum::Unknown,
+        has_payload: false,
+        last_persisted_size: Offset(0),
+    };
+    let none = b"";
+    session::open(
+        o,
+        store,
+        table,
+        b"projects/_/buckets/lockers",
+        b"journal",
+        none,
+        none,
+        b"handle",
+        none,
+    )
 }
 
-fn part(event: &[u8], from: usize, to: usize) -> &[u8] {
+// What is not yet taken of an event.
+fn rest(event: &[u8], from: usize, to: usize) -> &[u8] {
     if from <= to {
         if to <= event.len() {
             return &event[from..to];

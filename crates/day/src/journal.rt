@@ -1,12 +1,6 @@
 // The journal: a byte for each offset, so that nobody has to keep it.
 use std::num::wrapping_add_u64;
 
-// What the server finds of a chunk's bytes: their sum, and how many are not the journal's.
-pub struct Checked {
-    pub sum: u32,
-    pub wrong: u64,
-}
-
 // The byte at an offset, in the journal of this key.
 fn byte_at(key: u64, at: u64) -> u8 {
     let x = wrapping_add_u64(key, at) % 4294967296;
@@ -22,14 +16,8 @@ pub fn fill(event: &mut [u8], key: u64, at: u64) {
     }
 }
 
-pub fn check(bytes: &[u8], key: u64, at: u64) -> Checked {
-    Checked {
-        sum: crc32c::crc32c(bytes),
-        wrong: wrong(bytes, key, at),
-    }
-}
-
-fn wrong(bytes: &[u8], key: u64, at: u64) -> u64 {
+// How many of the bytes from an offset on are not the journal's.
+pub fn wrong(bytes: &[u8], key: u64, at: u64) -> u64 {
     let mut wrong = 0;
     let mut i = 0;
     while i < bytes.len() {

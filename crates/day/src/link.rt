@@ -107,4 +107,11 @@ impl Link {
         self.redirects = wrapping_add_u64(self.redirects, 1);
         self
     }
+
+    // An attempt to connect failed.
+    pub fn failed(self, stated: u64, key: u64) -> Link {
+        let mut l = self.erred(stated, key);
+        l.failed_attempts = wrapping_add_u64(l.failed_attempts, 1);
+        l
+    }
 }

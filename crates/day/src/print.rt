@@ -23,6 +23,12 @@ pub fn number(n: u64) {
     io::print_decimal(STDOUT_FILENO, n);
 }
 
+pub fn usage() {
+    text(
+        b"usage: day [seed [days [breaks a day]]]: seed of at most 18 digits, days 1 to 10000, breaks 0 to 1000\n",
+    );
+}
+
 // ---- through the day
 
 // The time of day of an event: they come evenly.

@@ -1,11 +1,8 @@
 // The server and the present connection, by document 01's "Server rules". It sees requests and the bytes that they carry, and keeps of the bytes their
 // number and sum.
-ghost use Prim.Native.Nat.{_≤_};
-ghost use lib.ListN.{length};
 use crate::chance;
 use crate::chance::minus;
 use crate::journal;
-use crate::journal::Checked;
 use bidi_write::Checksum;
 use bidi_write::ChecksummedData;
 use bidi_write::Data;
@@ -68,63 +65,58 @@ pub fn new(journal: u64) -> Server {
     }
 }
 
-// ---- a request is taken
-
-pub fn take(v: Server, r: Request, out: &[u8], key: u64) -> Server {
-    let data = r.data;
-    match data {
-        Data::Absent => take_bare(v, r, key),
-        Data::Checksummed(c) => take_chunk(v, r, c, out, key),
-    }
-}
-
-// "A chunk joins the tail if its offset is the end of both and its sum is right, else the connection is cut."
-fn take_chunk(v: Server, r: Request, c: ChecksummedData, out: &[u8], key: u64) -> Server {
-    let at = r.write_offset;
-    let n = c.length;
-    if bidi_write::to_nat(at) != v.end() {
-        return v.cuts(key);
-    }
-    if out.len() < n {
-        return v.cuts(key);
-    }
-    let found = check(out, n, v.journal, v.end());
-    if found.sum != c.crc32c {
-        return v.cuts(key);
-    }
-    let mut joined = v;
-    joined.tail = wrapping_add_u64(v.tail, n as u64);
-    joined.misplaced = wrapping_add_u64(v.misplaced, found.wrong);
-    if r.flush {
-        return joined.flush(key);
-    }
-    joined
-}
-
-fn check(out: &[u8], n: usize, journal: u64, at: u64) -> Checked
-    requires { ⌜ n ≤ length (now out) ⌝ }
-{
-    journal::check(&out[..n], journal, at)
-}
-
-// "A request without data has its offset checked only with finish."
-fn take_bare(v: Server, r: Request, key: u64) -> Server {
-    if !r.finish_write {
-        return v.flush(key);
-    }
-    let at = r.write_offset;
-    let sum = r.object_checksums;
-    v.finish(bidi_write::to_nat(at), sum, key)
-}
-
-fn is_right(given: Checksum, sum: u32) -> bool {
-    match given {
-        Checksum::Unknown => true,
-        Checksum::Known(x) => x == sum,
-    }
-}
-
 impl Server {
+    // ---- a request is taken
+
+    pub fn take(self, r: Request, out: &[u8], key: u64) -> Server {
+        let at = r.write_offset;
+        let sum = r.object_checksums;
+        let data = r.data;
+        match data {
+            Data::Absent => self.take_bare(r.finish_write, bidi_write::to_nat(at), sum, key),
+            Data::Checksummed(c) => self.take_chunk(c, bidi_write::to_nat(at), r.flush, out, key),
+        }
+    }
+
+    // "A chunk joins the tail if its offset is the end of both and its sum is right, else the connection is cut."
+    fn take_chunk(self, c: ChecksummedData, at: u64, flush: bool, out: &[u8], key: u64) -> Server {
+        let n = c.length;
+        if out.len() < n {
+            return self.cuts(key);
+        }
+        let bytes = &out[..n];
+        if !self.continues(at, bytes, c.crc32c) {
+            return self.cuts(key);
+        }
+        let v = self.joined(bytes);
+        if flush {
+            return v.flush(key);
+        }
+        v
+    }
+
+    fn continues(self, at: u64, bytes: &[u8], sum: u32) -> bool {
+        if at != self.end() {
+            return false;
+        }
+        crc32c::crc32c(bytes) == sum
+    }
+
+    fn joined(mut self, bytes: &[u8]) -> Server {
+        let wrong = journal::wrong(bytes, self.journal, self.end());
+        self.tail = wrapping_add_u64(self.tail, bytes.len() as u64);
+        self.misplaced = wrapping_add_u64(self.misplaced, wrong);
+        self
+    }
+
+    // "A request without data has its offset checked only with finish."
+    fn take_bare(self, finishes: bool, at: u64, sum: Checksum, key: u64) -> Server {
+        if finishes {
+            return self.finish(at, sum, key);
+        }
+        self.flush(key)
+    }
+
     fn end(self) -> u64 {
         wrapping_add_u64(self.persisted, self.tail)
     }
@@ -191,7 +183,7 @@ impl Server {
         if !self.owes {
             return self;
         }
-        let m = says(self, key);
+        let m = self.says(key);
         self.message = m;
         self.full = true;
         self.owes = self.tail != 0;
@@ -233,36 +225,36 @@ impl Server {
         }
         v
     }
-}
 
-// ---- what the server says
+    // ---- what the server says
 
-// "Every stated size is true when sent, and a message is finalised only once the object is."
-fn says(v: Server, key: u64) -> Said {
-    let size = v.persisted;
-    if v.finalised {
-        return Said {
-            kind: FINALISED,
-            size,
-        };
+    // "Every stated size is true when sent, and a message is finalised only once the object is."
+    fn says(self, key: u64) -> Said {
+        let size = self.persisted;
+        if self.finalised {
+            return Said {
+                kind: FINALISED,
+                size,
+            };
+        }
+        if chance::one_in(key, 10, 4) {
+            return Said {
+                kind: RESOURCE,
+                size,
+            };
+        }
+        Said { kind: SIZE, size }
     }
-    if chance::one_in(key, 10, 4) {
-        return Said {
-            kind: RESOURCE,
-            size,
-        };
-    }
-    Said { kind: SIZE, size }
-}
 
-// A handshake may leave unsaid that the object is finalised.
-pub fn greets(v: Server, key: u64) -> Said {
-    if chance::one_in(key, 11, 2) {
-        return says(v, key);
-    }
-    Said {
-        kind: SIZE,
-        size: v.persisted,
+    // A handshake may leave unsaid that the object is finalised.
+    pub fn greets(self, key: u64) -> Said {
+        if chance::one_in(key, 11, 2) {
+            return self.says(key);
+        }
+        Said {
+            kind: SIZE,
+            size: self.persisted,
+        }
     }
 }
 
@@ -270,5 +262,12 @@ fn empty() -> Said {
     Said {
         kind: NOTHING,
         size: 0,
+    }
+}
+
+fn is_right(given: Checksum, sum: u32) -> bool {
+    match given {
+        Checksum::Unknown => true,
+        Checksum::Known(x) => x == sum,
     }
 }

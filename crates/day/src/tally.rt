@@ -49,10 +49,9 @@ pub fn new() -> Tally {
 impl Tally {
     // A day more. The object is held to what the bank appended.
     pub fn with(self, w: World) -> Tally {
-        let b = w.bank;
-        let l = w.link;
-        let v = w.server;
-        let mut t = self.with_bank(b).with_link(l).with_server(v, b.bytes);
+        let mut t = self.with_bank(w.bank)
+            .with_link(w.link)
+            .with_server(w.server, w.bank.bytes);
         t.lost = wrapping_add_u64(t.lost, w.early);
         t
     }

@@ -1,10 +1,8 @@
 // The host, the link and the server together: what happens up to the host's next call, and what its answer leads to.
 use crate::bank;
-use crate::bank::Action;
-use crate::bank::Asked;
 use crate::bank::Bank;
 use crate::bank::EVENTS;
-use crate::bank::Other;
+use crate::bank::GO_ON;
 use crate::bank::STUCK;
 use crate::chance;
 use crate::chance::minus;
@@ -16,20 +14,20 @@ use crate::link::FINISH;
 use crate::link::FLUSH;
 use crate::link::HANDSHAKE;
 use crate::link::Link;
+use crate::message;
 use crate::print;
 use crate::server;
-use crate::server::Said;
 use crate::server::Server;
+use admission::CONNECTING;
+use admission::LIVE;
+use admission::REPLAY;
+use bidi_write::Call;
 use bidi_write::Data;
 use bidi_write::Request;
-use openings::opening::OpenAnswer;
+use openings::OpenAnswer;
 use std::num::wrapping_add_u64;
 use transport::Answer;
 use transport::MaybeRequest;
-use transport::phases::CLOSING;
-use transport::phases::CONNECTING;
-use transport::phases::REPLAY;
-use transport::phases::VERDICT;
 
 pub struct World {
     // of what is drawn next, and of the journal
@@ -45,27 +43,28 @@ pub struct World {
 // A host's next call, and the world in which it makes it.
 pub struct Move {
     pub world: World,
-    pub action: Action,
+    pub call: Call,
 }
 
-pub fn new(seed: u64, breaks: u64, a: OpenAnswer) -> World {
+pub fn new(seed: u64, breaks: u64, a: OpenAnswer, event: &mut [u8]) -> World {
     let journal = chance::draw(seed, 50, 4294967296);
     let bank = bank::new(opened(a));
     let link = link::new(breaks);
     let server = server::new(journal);
-    World {
+    let w = World {
         key: chance::draw(seed, 51, 4294967296),
         journal,
         bank,
         link,
         server,
         early: 0,
-    }
+    };
+    begin(w, event)
 }
 
 fn opened(a: OpenAnswer) -> u64 {
     match a {
-        OpenAnswer::Refused(x) => lines::refusal_number(x),
+        OpenAnswer::Refused(x) => bidi_write::refusal_number(x),
         OpenAnswer::Opened => 0,
     }
 }
@@ -73,14 +72,13 @@ fn opened(a: OpenAnswer) -> u64 {
 // ---- the day's tasks
 
 // The next task: an event of about 6,000 bytes, or at the end none.
-pub fn begin(mut w: World, event: &mut [u8]) -> World {
-    let b = w.bank;
-    let bank = b.begin(length_of(w.key, b.task, event.len()));
+fn begin(mut w: World, event: &mut [u8]) -> World {
+    let done = w.bank.task;
+    let bank = w.bank.begin(length_of(w.key, done, event.len()));
     w.bank = bank;
-    let mut link = w.link;
-    link.messages = messages_left(b.task);
-    w.link = link;
-    journal::fill(event, w.journal, b.bytes);
+    let messages = messages_left(done);
+    w.link.messages = messages;
+    journal::fill(event, w.journal, w.bank.bytes);
     w
 }
 
@@ -102,15 +100,12 @@ fn messages_left(done: u64) -> u64 {
 
 // A task ends with the completion of its waiter. Then "the base and every byte taken before the call that made it are persisted".
 fn work(mut w: World, event: &mut [u8]) -> World {
-    let b = w.bank;
-    if !b.is_answered() {
+    if !w.bank.is_answered() {
         return w;
     }
-    let v = w.server;
-    w.early = wrapping_add_u64(w.early, minus(b.bytes, v.persisted));
-    if b.task % 100 == 0 {
-        let l = w.link;
-        print::progress(b.task, v.persisted, l.broken);
+    w.early = wrapping_add_u64(w.early, minus(w.bank.bytes, w.server.persisted));
+    if w.bank.task % 100 == 0 {
+        print::progress(w.bank.task, w.server.persisted, w.link.broken);
     }
     begin(w, event)
 }
@@ -120,131 +115,90 @@ fn work(mut w: World, event: &mut [u8]) -> World {
 pub fn next(w: World, event: &mut [u8]) -> Move {
     let mut w = work(w, event);
     w.key = chance::next(w.key);
-    let b = w.bank;
-    let phase = b.phase;
-    if b.unsent {
-        return other(w, Other::SendFailed);
+    if w.bank.unsent {
+        return act(w);
     }
+    let phase = w.bank.phase;
     match phase {
-        VERDICT => other(w, Other::Judge),
         CONNECTING => dial(w),
-        REPLAY => ask(w, Asked::NextRequest),
-        CLOSING => other(w, Other::Break(link::END)),
-        _ => live(w),
+        LIVE => live(w),
+        _ => act(w),
     }
 }
 
-fn ask(world: World, a: Asked) -> Move {
-    Move {
-        world,
-        action: Action::Ask(a),
-    }
-}
-
-fn other(world: World, o: Other) -> Move {
-    Move {
-        world,
-        action: Action::Other(o),
-    }
-}
-
-// While live the host looks for messages and breaks when it waits, and now and then before.
+// While live the host looks for messages and breaks when it waits, and now and then before. A desk that waits with nothing on its way waits for ever.
 fn live(mut w: World) -> Move {
-    let b = w.bank;
-    let waits = b.waits();
+    let waits = w.bank.waits();
     if !waits {
         if chance::one_in(w.key, 41, 2) {
             return act(w);
         }
     }
-    let v = w.server;
-    let server = v.serve(waits, w.key);
+    let server = w.server.serve(waits, w.key);
     w.server = server;
-    if !server.lossless {
+    if !w.server.lossless {
         return see_break(w);
     }
-    if server.full {
+    if w.server.full {
         return receive(w);
+    }
+    if waits {
+        w.bank.trouble = STUCK;
     }
     act(w)
 }
 
-// The host's own next call. A desk that waits here waits for ever.
-fn act(mut w: World) -> Move {
-    let mut b = w.bank;
-    if b.taken < b.length {
-        return Move {
-            world: w,
-            action: Action::Append,
-        };
-    }
-    if b.waits() {
-        b.trouble = STUCK;
-        w.bank = b;
-    }
-    if b.task <= EVENTS {
-        return ask(w, Asked::Flush);
-    }
-    if b.task == EVENTS + 1 {
-        return ask(w, Asked::Finalise);
-    }
-    other(w, Other::Close)
+// The host's own next call.
+fn act(w: World) -> Move {
+    let call = w.bank.call();
+    Move { world: w, call }
 }
 
 // The message arrives, or a break comes first.
 fn receive(mut w: World) -> Move {
-    let l = w.link;
-    if l.breaks_now(w.key) {
+    if w.link.breaks_now(w.key) {
         return see_break(broken(w, ANSWER));
     }
-    let mut v = w.server;
-    let m = v.message;
-    v.full = false;
-    w.server = v;
-    told(w, false, m)
+    w.server.full = false;
+    let m = w.server.message;
+    let call = Call::Response(message::response(m));
+    Move {
+        world: told(w, m.size),
+        call,
+    }
 }
 
-// The host has a message, by a handshake or not.
-fn told(mut w: World, greets: bool, m: Said) -> Move {
-    let b = w.bank;
-    let bank = b.told(m);
+// A message of this size arrived.
+fn told(mut w: World, size: u64) -> World {
+    let bank = w.bank.told(size);
     w.bank = bank;
-    let l = w.link;
-    let link = l.passed();
+    let link = w.link.passed();
     w.link = link;
-    Move {
-        world: w,
-        action: Action::Message(greets, m),
-    }
+    w
 }
 
 // A break falls on a message.
 fn broken(mut w: World, what: u64) -> World {
-    let b = w.bank;
-    let l = w.link;
-    let link = l.broken(w.key);
+    let link = w.link.broken(w.key);
     w.link = link;
-    print::falls(b.events(), link.broken, what);
+    print::falls(w.bank.events(), w.link.broken, what);
     w
 }
 
 // The host sees that the connection is down, or takes it down.
 fn see_break(mut w: World) -> Move {
-    let v = w.server;
-    let server = v.cut(w.key);
+    let server = w.server.cut(w.key);
     w.server = server;
-    let b = w.bank;
-    let l = w.link;
-    let link = l.erred(b.stated, w.key);
+    let link = w.link.erred(w.bank.stated, w.key);
     w.link = link;
-    print::seen(server.lost, link.kind);
-    other(w, Other::Break(link.kind))
+    print::seen(w.server.lost, w.link.kind);
+    let call = Call::Break(message::stream_break(w.link.kind));
+    Move { world: w, call }
 }
 
 // A break while connecting, an attempt that fails by itself, or the handshake.
 fn dial(w: World) -> Move {
-    let l = w.link;
-    if l.breaks_now(w.key) {
+    if w.link.breaks_now(w.key) {
         return fail(broken(w, HANDSHAKE), true);
     }
     if chance::one_in(w.key, 42, 4) {
@@ -254,31 +208,31 @@ fn dial(w: World) -> Move {
 }
 
 fn fail(mut w: World, tells: bool) -> Move {
-    let b = w.bank;
-    let l = w.link;
-    let mut link = l.erred(b.stated, w.key);
-    link.failed_attempts = wrapping_add_u64(link.failed_attempts, 1);
+    let link = w.link.failed(w.bank.stated, w.key);
     w.link = link;
     if tells {
-        print::seen(0, link.kind);
+        print::seen(0, w.link.kind);
     }
-    other(w, Other::FailedAttempt(link.kind))
+    let call = Call::FailedAttempt(message::stream_break(w.link.kind), GO_ON);
+    Move { world: w, call }
 }
 
 // "An accepted handshake begins the next connection, with no tail, and states the true size."
 fn greet(mut w: World) -> Move {
-    let mut v = w.server;
-    v.alive = true;
-    v.lossless = true;
-    w.server = v;
-    told(w, true, server::greets(v, w.key))
+    w.server.alive = true;
+    w.server.lossless = true;
+    let m = w.server.greets(w.key);
+    let call = Call::Handshake(message::response(m));
+    Move {
+        world: told(w, m.size),
+        call,
+    }
 }
 
 // ---- its answer
 
 pub fn heard(mut w: World, a: Answer, out: &[u8]) -> World {
-    let b = w.bank;
-    let bank = b.heard(a);
+    let bank = w.bank.heard(a);
     w.bank = bank;
     let r = request_in(a);
     match r {
@@ -293,50 +247,45 @@ fn request_in(a: Answer) -> MaybeRequest {
         Answer::Took(_, r) => r,
         Answer::Sends(r) => MaybeRequest::Present(r),
         Answer::Waits(r, _) => MaybeRequest::Present(r),
-        Answer::Completes(_, r) => r,
+        Answer::Completes(c) => c.request,
         Answer::Attempt(_) => MaybeRequest::Absent,
         Answer::Accepted => MaybeRequest::Absent,
         Answer::Done => MaybeRequest::Absent,
-        Answer::Ends(_, _, _) => MaybeRequest::Absent,
+        Answer::Ends(_) => MaybeRequest::Absent,
     }
 }
 
 // The host "sends each request once, on the present connection, or reports it failed". What is sent on a connection that was cut is lost with it.
 fn send(mut w: World, r: Request, out: &[u8]) -> World {
-    let v = w.server;
-    if !v.alive {
+    if !w.server.alive {
         return sent(w, r, chance::one_in(w.key, 43, 2));
     }
-    let l = w.link;
-    if v.lossless {
-        if l.breaks_now(w.key) {
+    if w.server.lossless {
+        if w.link.breaks_now(w.key) {
             return break_on(w, r);
         }
     }
-    let server = server::take(v, r, out, w.key);
+    let server = w.server.take(r, out, w.key);
     w.server = server;
-    let link = l.passed();
+    let link = w.link.passed();
     w.link = link;
     sent(w, r, false)
 }
 
 fn sent(mut w: World, r: Request, unsent: bool) -> World {
-    let b = w.bank;
-    let bank = b.sends(r, unsent);
+    let bank = w.bank.sends(r, unsent);
     w.bank = bank;
     w
 }
 
 // The request is lost silently, or reported as not sent; then the connection may yet carry what comes next.
 fn break_on(w: World, r: Request) -> World {
-    let mut u = broken(w, what(r));
-    let b = w.bank;
+    let mut w = broken(w, what(r));
     let way = chance::draw(w.key, 44, 3);
-    print::how(way != 0, b.phase == REPLAY);
-    let v = w.server;
-    let server = v.breaks(way == 2, w.key);
-    u.server = server;
-    sent(u, r, way != 0)
+    print::how(way != 0, w.bank.phase == REPLAY);
+    let server = w.server.breaks(way == 2, w.key);
+    w.server = server;
+    sent(w, r, way != 0)
 }
 
 fn what(r: Request) -> u64 {

@@ -1,18 +1,17 @@
 // Makes every call that the records on standard input name, and prints after each what it answered and the whole state: docs/TRACE.md.
 ghost use Prim.Native.Nat.{_≤_};
 
-mod answer;
-mod fields;
-mod input;
-mod put;
-mod record;
 mod script;
-mod show;
 
-use fields::CUT;
-use input::Stand;
-use record::EN;
-use record::OP;
+use script::Stand;
+use script::play;
+use trace_records::Asks;
+use trace_records::fields::CUT;
+use trace_records::input::fetch;
+use trace_records::opening::read_lent;
+use trace_text::flush;
+use trace_text::part;
+use trace_text::text;
 
 // An opening with six texts of 65,535 bytes, the longest record, has 393,300.
 const INPUT: usize = 400000;
@@ -33,7 +32,7 @@ fn main() {
     let mut table = [0u64; SLOTS];
     let mut room = [0u8; ROOM];
     let n = run(&mut input, &mut out, &mut store, &mut table, &mut room);
-    put::flush(&out, n);
+    flush(&out, n);
 }
 
 // Runs every script; says how much of the output waits.
@@ -48,8 +47,6 @@ fn run(
         at: 0,
         end: 0,
         waiting: 0,
-        begun: false,
-        accepted: false,
     };
     let mut turns = u64::MAX;
     while turns > 0 {
@@ -71,17 +68,19 @@ fn turn(
     room: &mut [u8],
     p: Stand,
 ) -> Stand {
-    let f = input::fetch(input, p);
-    let record = f.record;
-    let next = f.stand;
-    if next.at == CUT {
-        return next;
-    }
-    let mark = record.mark;
-    match mark {
-        OP => lend(input, out, store, table, room, next, record.fields),
-        EN => next.printed(put::text(out, p.waiting, b"\n")),
-        _ => next,
+    let f = fetch(input, p.at, p.end);
+    let r = f.record;
+    let asks = r.asks;
+    let q = Stand {
+        at: r.next,
+        end: f.end,
+        waiting: p.waiting,
+    };
+    match asks {
+        Asks::Opening(at) => lend(input, out, store, table, room, q, at),
+        Asks::Call(_) => q,
+        Asks::End => q.printed(text(out, p.waiting, b"\n")),
+        Asks::Nothing => q,
     }
 }
 
@@ -95,11 +94,11 @@ fn lend(
     p: Stand,
     at: usize,
 ) -> Stand {
-    let lent = record::read_lent(put::part(input, 0, p.end), at);
+    let lent = read_lent(part(input, 0, p.end), at);
     let a = least(lent.store, store.len());
     let b = least(lent.slots, table.len());
     let c = least(lent.out, room.len());
-    script::play(
+    play(
         input,
         out,
         &mut store[..a],
