@@ -37,6 +37,15 @@ def calls(output):
     return found
 
 
+def answers(output):
+    """what each call answered, in a line; of an end the cause too"""
+    shown = []
+    for lines in calls(output):
+        _, end, cause = lines[-1].partition(b" cause=")
+        shown.append(lines[0] + b" " + cause if end and lines[0].endswith(b" end") else lines[0])
+    return b", ".join(shown).decode("latin1")
+
+
 def first_difference(crate, port):
     """the lines of the first call on which they differ, of either"""
     crate, port = (calls(output) for output in comparable(crate, port))

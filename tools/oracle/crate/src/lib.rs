@@ -1,4 +1,4 @@
-//! The oracle: the crate's own files under src/storage and src/generated (put there by patch.py), stand-ins for its other files, and the driver in
+//! The oracle: the crate's own files under src/storage and src/generated (put there by patch), stand-ins for its other files, and the driver in
 //! src/oracle.
 pub use google_cloud_gax::{Result, error::Error};
 

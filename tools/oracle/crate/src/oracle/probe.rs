@@ -1,4 +1,4 @@
-//! Views of the crate's private state: published by the probe lines that patch.py inserts, read by the driver.
+//! Views of the crate's private state: published by the probe lines that patch inserts, read by the driver.
 use crate::google::storage::v2::BidiWriteObjectRequest;
 use crate::storage::bidi_write::OracleRetryRedirect;
 use crate::storage::bidi_write::replay_buffer::ReplayChunk;

@@ -1,0 +1,293 @@
+"""Document 01's boundary cases as scripts: for each its name, its calls, and what its opening has that the others have not.
+
+A call is the mark of its record (docs/TRACE.md) and what it brings, as in docs/DIFFERENCES.md. AP has the bytes, the letters of their offsets from a to z and
+again. RS and HS have a size or none, and `resource` or `finalised` where a resource holds it, or `handle` and the length of one. BR, and FA behind its verdict,
+have a word of BREAKS, or none for an end of stream.
+
+No record says what the program `extremes` has: C and capacity at 2^64 - 1, bytes of a handle or a token that is not given, a call after a refused opening, the
+attempt number at 2^32 - 1, and the 2^64 - 1st waiter.
+"""
+
+import dataclasses
+
+from .calls import BUCKET, Append, Break, FailedAttempt, Handshake, Opening, Plain, Redirect, Response, Script, Verdict
+from .moves import ABORTED, HIGH, LOW
+
+PREFIX = BUCKET[:-1]
+UNAVAILABLE = 14
+BREAKS = {
+    "": Break(0),
+    "error": Break(2),
+    "unavailable": Break(1, UNAVAILABLE),
+    "aborted": Break(1, ABORTED),
+    "detail": Break(1, UNAVAILABLE, Redirect(b"t", b"h")),
+    "redirect": Break(1, ABORTED, Redirect(b"t", b"h")),
+    "empty redirect": Break(1, ABORTED, Redirect()),
+    "longest": Break(1, ABORTED, Redirect(b"t" * 512, b"h" * 1024)),
+    "token 513": Break(1, ABORTED, Redirect(b"t" * 513, b"")),
+    "handle 1025": Break(1, ABORTED, Redirect(b"", b"h" * 1025)),
+}
+# C 4, capacity 9 and P 0; the store and the out buffer are the shortest that these take
+OPENING = Opening(chunk=4, capacity=9, generation=1, response=Response(0), store=15, slots=8, out=4)
+
+
+def case(name, calls, **opening):
+    return name, Script([dataclasses.replace(OPENING, **opening)] + [call(text) for text in calls.split(", ")])
+
+
+def opens(name, **opening):
+    """an opening alone: its response states nothing, and one slot is lent"""
+    return name, Script([dataclasses.replace(OPENING, **{"response": Response(), "slots": 1} | opening)])
+
+
+def call(text):
+    mark, _, more = text.partition(" ")
+    if mark == "AP":
+        return Append(more.encode())
+    if mark in ("RS", "HS"):
+        return message({"RS": Response, "HS": Handshake}[mark], more.split())
+    if mark == "BR":
+        return BREAKS[more]
+    if mark == "VE":
+        return Verdict(int(more))
+    if mark == "FA":
+        verdict, _, how = more.partition(" ")
+        return FailedAttempt(int(verdict), BREAKS[how])
+    return Plain(mark.encode())
+
+
+def message(kind, words):
+    if not words:
+        return kind()
+    if words[0] == "handle":
+        return kind(handle=b"h" * int(words[1]))
+    return kind(int(words[0]), 2 if words[1:] else None, words[1:] == ["finalised"])
+
+
+# Refusals 1 to 5, each bound from both sides. Where the store is too short for the largest C or capacity, 2 shows that 1 was not given.
+OPENINGS = [
+    opens("C 0", chunk=0, capacity=0),
+    opens("C 1", chunk=1, capacity=0),
+    opens("C 2097152", chunk=2097152, capacity=0),
+    opens("C 2097153", chunk=2097153, capacity=0),
+    opens("C 2^32 - 1", chunk=2**32 - 1),
+    opens("capacity 1073741824", capacity=1073741824),
+    opens("capacity 1073741825", capacity=1073741825),
+    opens("capacity 2^32 - 1", capacity=2**32 - 1),
+    opens("store 15"),
+    opens("store 14", store=14),
+    opens("no slot", slots=0),
+    opens("capacity 8 asked, store 15", capacity=8),
+    opens("capacity 8 asked, store 14", capacity=8, store=14),
+    opens("capacity 10, store 15", capacity=10),
+    opens("capacity not named, store 15", capacity=None),
+    opens("bucket of no bytes", bucket=b""),
+    opens("bucket prefix alone", bucket=PREFIX),
+    opens("bucket prefix and a byte", bucket=PREFIX + b"b"),
+    opens("bucket prefix cut", bucket=PREFIX[:-1]),
+    opens("bucket of a project", bucket=b"projects/p/buckets/b"),
+    opens("bucket 256", bucket=PREFIX + b"x" * 237),
+    opens("bucket 257", bucket=PREFIX + b"x" * 238),
+    opens("object of no bytes", object=b""),
+    opens("object 1024", object=b"o" * 1024),
+    opens("object 1025", object=b"o" * 1025),
+    opens("handle 1024", handle=b"h" * 1024),
+    opens("handle 1025", handle=b"h" * 1025),
+    opens("handle 1025, Write form", handle=b"h" * 1025, append=False),
+    opens("token 512", token=b"t" * 512),
+    opens("token 513", token=b"t" * 513),
+    opens("token 513, Write form", token=b"t" * 513, append=False),
+    opens("response's handle 1024", response=Response(handle=b"h" * 1024)),
+    opens("response's handle 1025", response=Response(handle=b"h" * 1025)),
+    opens("payload of no bytes", payload=b""),
+    opens("payload 4", payload=b"abcd"),
+    opens("payload 5", payload=b"abcde"),
+    opens("resource", payload=b"abcd", response=Response(2, 2)),
+    opens("finalised", payload=b"abcd", response=Response(2, 2, True)),
+    opens("finalised, payload 5", payload=b"abcde", response=Response(2, 2, True)),
+    # each deserves its refusal and every one behind it
+    opens("1 before 2", chunk=0, slots=0, bucket=b"", payload=b"abcde", response=Response(2, 2, True)),
+    opens("2 before 3", slots=0, bucket=b"", payload=b"abcde", response=Response(2, 2, True)),
+    opens("3 before 4", bucket=b"", payload=b"abcde", response=Response(2, 2, True)),
+    opens("4 before 5", payload=b"abcde", response=Response(2, 2, True)),
+]
+
+# Refusals 4, 8, 11 and 13, and lengths of nothing.
+LENGTHS = [
+    case("document 01", "AP abcdef, AP ef, FL, FL, RS 5, BR, VE 1, HS 5, NX, NX, NX, RS 6"),
+    case("held 3, append 1", "AP abc, AP d, FL"),
+    case("append of nothing", "AP, AP ab, AP, RS -1, AP, AP c"),
+    case("response's handle 1024, 1025", "RS handle 1024, RS handle 1025, RS 0"),
+    case("redirect's token 513, handle 1025", "BR token 513, BR handle 1025, BR longest"),
+    case("out buffer C - 1, append", "AP a, AP bcd", out=3),
+    case("out buffer C, append", "AP a, AP bcde"),
+    case("out buffer C - 1, flush", "FL, AP a, FL", out=3),
+    case("out buffer C, flush", "AP a, FL, FL"),
+    case("out buffer C - 1, replay", "BR, VE 1, HS, NX", payload=b"abcd", out=3),
+    case("out buffer C - 1, replay without data", "FI, BR, VE 1, HS 4, NX, NX", payload=b"abcd", out=3),
+    case("out buffer C, replay", "AP abcd, FL, BR, VE 1, HS, NX, NX, NX"),
+    case("stored 8 of 9, flush", "AP abcd, AP efgh, FL"),
+    case("stored 9 of 9, flush", "AP abcd, AP efgh, AP i, FL, FL, FI, CL, AP jklm, AP jk"),
+    case("stored 10 of 9, flush", "AP abcd, AP efgh, AP ij, FL, FL, RS 1, FL"),
+    case("verdict 0, 1", "BR, VE 0, VE 1"),
+    case("verdict 4, 5", "BR, VE 5, VE 4"),
+]
+
+# Refusal 6.
+PHASES = [
+    case("live", "VE 1, FA 1 error, HS 0, NX, SF"),
+    case("verdict", "BR, BR, RS 0, AP ab, AP cdef, FL, FI, CL, FA 1 error, HS 0, NX, SF"),
+    case("connecting", "BR, VE 1, BR, RS 0, AP abcd, FL, FI, CL, VE 1, NX, SF"),
+    case("replay", "AP abcd, BR, VE 1, HS 0, BR, RS 0, AP efgh, FL, FI, CL, VE 1, FA 1 error, HS 0, SF"),
+    case("closing", "CL, CL, VE 1, FA 1 error, HS 0, NX, SF, RS 0, BR"),
+]
+
+# Refusal 7, and each cause.
+ENDED = [
+    case("regressed", "FL, RS -1, FL, AP a, AP, CL, BR, VE 1, FA 1 error, HS 0, NX, SF, RS 0"),
+    case("permanent", "FL, BR, VE 2, VE 1"),
+    case("exhausted", "FL, FL, BR, VE 3, VE 1"),
+    case("given up", "BR, VE 4, VE 1"),
+    case("finished", "FI, RS 0 finalised, BR, FL"),
+    case("stream error", "CL, BR unavailable, RS 0"),
+    case("closed, waiter dropped", "FL, CL, BR, RS 0"),
+    case("closed, waiter failed", "FL, CL, BR error"),
+    case("finished in closing", "FI, RS 0 finalised, CL, BR error"),
+]
+
+# Refusal 12.
+CLOSED = [
+    case("second finalise", "AP a, FI, FI, FI, FL, AP b, AP, CL"),
+    case("finalise cuts, append", "AP a, FI, AP b, FI, FI"),
+    case("append after close", "AP a, CL, AP b, AP, FL, FI"),
+    case("close in replay of a finalise", "FI, BR, VE 1, AP a, FL, HS, NX, NX, CL, BR unavailable"),
+]
+
+# Refusals 9 and 10.
+ROOM = [
+    case("last slot", "AP a, FL, AP b, FL, AP c, FL, AP defg, FI, FL, RS 1, FL", slots=2),
+    case("16 flushes", "FL, " * 17 + "FI, AP a, FL, FL, RS 0, FL"),
+    case("2^63 - 1, one byte", "AP h, FL, AP ijkl, AP ij, FI", response=Response(HIGH)),
+    case("2^63 - 1, none", f"FL, RS {HIGH}, RS {HIGH - 1}", response=Response(HIGH)),
+    case("2^63 - 2, one byte", f"AP g, FL, AP h, FL, RS {HIGH}, FL", response=Response(HIGH - 1)),
+    case("2^63 - 2, two bytes", "AP gh, FL, FI", response=Response(HIGH - 1)),
+    case("2^63 - 2, a chunk", "AP ghi, AP j, AP jklm", response=Response(HIGH - 1)),
+]
+
+# P below, at and above zero, and at both ends.
+SIZES = [
+    case("P lowest", f"AP abcd, RS {LOW}, RS -1, RS 0, RS 1, RS {LOW}", response=Response(LOW)),
+    case("P -1", f"FL, RS -1, RS 0, RS {LOW}", response=Response(-1)),
+    case("P -1, below", f"AP abcd, FL, RS {LOW}", response=Response(-1)),
+    case("P 0, equal, one less", "RS 0, RS -1, RS 0"),
+    case("P 0, a resource", "AP abcd, RS 4 resource, RS 3 resource"),
+    case("P 0, highest", f"AP abcd, RS {HIGH}, FL, AP efgh, RS {HIGH - 1}"),
+    case("size above the pushed end", "AP abcd, FL, RS 9, AP efgh, RS 8"),
+    case("no size", "AP abcd, RS, AP efgh, FL, RS, RS 8"),
+    case("no bare flush in closing", "AP abcd, CL, RS 0, RS 4, BR"),
+    case("trim inside a chunk", "AP abcd, AP ef, FL, RS 5, BR, VE 1, HS 5, NX, NX, NX"),
+    case("trim by a handshake", "AP abcd, AP efgh, BR, VE 1, HS 3, NX, NX, NX, NX"),
+    case("handshake regresses", "FL, AP abcd, RS 4, BR, VE 1, HS 3"),
+    case("handshake without size", "AP abcd, BR, VE 1, HS, NX, NX, NX"),
+]
+
+# Finalised responses.
+FINALS = [
+    case("finalised, none sent", "FL, RS 0 finalised"),
+    case("finalised, flush in front", "FL, FI, RS 0 finalised"),
+    case("finalised, size short", "AP a, FI, FI, RS 0 finalised"),
+    case("not finalised", "FI, RS 0, RS 0, RS 0 finalised, RS 0, BR"),
+    case("finalise behind a flush", "AP a, FL, FL, FI, RS 1, RS 1 finalised, BR unavailable"),
+    case("finalised handshake", "FI, BR, VE 1, HS 0 finalised, NX, BR"),
+    case("finalised handshake, none sent", "BR, VE 1, HS 0 finalised"),
+    case("waiters from the front", "FL, AP a, FL, FL, AP b, FL, FL, RS 1, RS 2"),
+]
+
+# A payload is stored at offset 0 and acknowledged to P.
+PAYLOADS = [
+    case("payload C", "BR, VE 1, HS, NX, NX, NX", payload=b"abcd"),
+    case("payload C + 1", "FL", payload=b"abcde"),
+    case("payload within P", "AP e, FL, BR, VE 1, HS, NX, NX, NX, NX", payload=b"abcd", response=Response(2)),
+    case("payload below P", "AP j, FL, BR, VE 1, HS, NX, NX, NX", payload=b"abcd", response=Response(9)),
+    case("empty payload, P -1", "BR, VE 1, HS -1, NX, NX", payload=b"", response=Response(-1)),
+    case("empty payload, P 0", "BR, VE 1, HS 0, NX, NX", payload=b""),
+    case("empty payload, acknowledged", "RS -1, RS 0, BR, VE 1, HS, NX", payload=b"", response=Response(-1)),
+    case("empty payload, P lowest", f"RS {LOW}, BR, VE 1, HS, NX, AP ab, NX, FL, FL", payload=b"", response=Response(LOW)),
+]
+
+# The first byte and the first slot in use pass the ends of store and table.
+RINGS = [
+    case(
+        "ring",
+        "AP abcd, RS 3, AP efgh, RS 6, AP ijkl, RS 9, AP mnop, RS 16, AP qrst, RS 19, AP uvwx, RS 22, AP yz, FL, RS 25, AP abcd, RS 29, AP efgh, RS 31, "
+        "AP ijkl, RS 36, AP mnop, BR, VE 1, HS, NX, NX, NX, NX",
+    ),
+    case(
+        "ring, bytes held",
+        "AP abcd, AP efgh, AP ij, RS 5, AP kl, AP m, RS 10, AP nopq, AP qr, RS 15, AP stuv, AP u, RS 16, AP vwxy, AP y, BR, VE 1, HS, NX, NX, NX, NX, "
+        "FL, FL, RS 25",
+    ),
+    case(
+        "table",
+        "AP a, FL, AP b, FL, RS 1, AP c, FL, RS 2, AP de, FL, RS 4, AP f, FL, RS 5, AP g, FL, AP h, RS 6, FL, AP i, FL, BR, VE 1, HS, NX, NX, NX, NX",
+        slots=2,
+    ),
+    case(
+        "ring, C 1",
+        "AP a, AP b, AP c, AP d, RS 1, AP d, RS 3, AP e, AP f, AP g, RS 5, AP g, BR, VE 1, HS, NX, NX, NX, NX, NX, FL",
+        chunk=1,
+        capacity=0,
+        store=3,
+        slots=4,
+    ),
+]
+
+# The attempt number.
+ATTEMPTS = [
+    case("attempts", "BR, VE 1, FA 1 error, FA 1 error, HS, NX, BR unavailable, VE 1, HS, NX, BR error, VE 1, HS, NX, BR aborted"),
+    case("attempts, progress", "AP abcd, BR, VE 1, HS 0, NX, NX, NX, BR, VE 1, HS 1, NX, NX, NX, BR, VE 1, HS 1, NX, NX, NX, RS 2, BR"),
+    case("attempts, detail with another code", "BR, VE 1, HS, NX, BR detail, VE 1, HS, NX, BR redirect"),
+]
+
+# A size above the last one starts the count anew.
+REDIRECTS = [
+    case("redirect 1, verdict 1", "BR redirect, VE 1"),
+    case("redirect 1, verdict 2", "BR redirect, VE 2"),
+    case("redirect 1, verdict 3", "BR redirect, VE 3"),
+    case("redirect 1, verdict 4", "FL, BR redirect, VE 4"),
+    case("redirect 2, verdict 1", "BR redirect, VE 1, FA 1 redirect"),
+    case("redirect 2, verdict 2", "BR redirect, VE 2, FA 2 redirect"),
+    case("redirect 2, verdict 3", "BR redirect, VE 3, FA 3 redirect"),
+    case("redirect 2, verdict 4", "BR redirect, VE 1, FA 4 redirect"),
+    case("redirect 3, verdict 1", "BR redirect, VE 1, FA 1 redirect, FA 1 redirect"),
+    case("redirect 3, verdict 2", "BR redirect, VE 1, FA 1 redirect, FA 2 redirect"),
+    case("redirect 3, verdict 3", "BR redirect, VE 1, FA 1 redirect, FA 3 redirect"),
+    case("redirect 3, verdict 4", "BR redirect, VE 1, FA 1 redirect, FA 4 redirect"),
+    case("redirect 4, verdict 1", "BR redirect, VE 1, FA 1 redirect, FA 1 redirect, FA 1 redirect"),
+    case("redirect 4, verdict 2", "BR redirect, VE 1, FA 1 redirect, FA 1 redirect, FA 2 redirect"),
+    case("redirect 4, verdict 3", "BR redirect, VE 1, FA 1 redirect, FA 1 redirect, FA 3 redirect"),
+    case("redirect 4, verdict 4", "BR redirect, VE 1, FA 1 redirect, FA 1 redirect, FA 4 redirect"),
+    case("redirect 4 by a break", "BR redirect, VE 1, FA 1 redirect, FA 1 redirect, HS, NX, BR redirect, VE 1"),
+    case(
+        "redirect 5, after progress",
+        "BR redirect, VE 1, FA 1 redirect, FA 1 redirect, HS 1, NX, BR redirect, VE 1, FA 1 redirect, FA 1 redirect, FA 1 redirect",
+    ),
+    case("redirect without a token", "BR redirect, VE 1, FA 1 empty redirect"),
+    case("redirects 3, other errors", "BR redirect, VE 1, FA 1 redirect, FA 1 redirect, FA 1 error, FA 1 error, FA 3 error"),
+    case("failed attempt, verdict 0, 5, 2", "BR, VE 1, FA 0 error, FA 5 error, FA 2 error"),
+]
+
+# A send reported failed. A bare flush behind it on the same connection fails too in the crate, so it is reported.
+FAILURES = [
+    case("failed after a chunk", "AP a, AP bcde, SF, SF, FL"),
+    case("failed after a flush", "FL, SF, SF, RS 0"),
+    case("failed after a refusal", "AP abcd, VE 1, AP, SF, SF"),
+    case("failed after a bare flush", "AP abcd, AP efgh, RS 2, SF, RS 2, SF, SF, AP ijkl"),
+    case("failed after a marked chunk", "AP abcd, SF, AP efgh, RS, SF, AP i"),
+    case("failed in replay", "AP abcd, AP efgh, BR, VE 1, HS 0, NX, SF, NX, SF, AP ijkl, FL"),
+    case("failed bare flush of a replay", "AP abcd, BR, VE 1, HS 0, NX, NX, SF, AP efgh"),
+    case("failed after done", "AP abcd, BR, VE 1, HS 0, NX, NX, NX, SF"),
+    case("failed after append", "AP abcd, AP e, SF, BR"),
+]
+
+CASES = OPENINGS + LENGTHS + PHASES + ENDED + CLOSED + ROOM + SIZES + FINALS + PAYLOADS + RINGS + ATTEMPTS + REDIRECTS + FAILURES
