@@ -43,6 +43,11 @@ abbrev pub dataOf : Data → M.Bytes → Option M.ChecksummedData
 dataOf payload.Absent out = none
 dataOf (payload.Checksummed d) out = some (record { content = take (d .length) out; crc32c = d .crc32c })
 
+-- the length that a request gives them
+abbrev pub lengthOf : Data → ℕ
+lengthOf payload.Absent = 0
+lengthOf (payload.Checksummed d) = d .length
+
 unfoldable pub requestOf : Request → M.Bytes → M.Request
 requestOf r out = record {
   writeOffset = r .«write_offset» .0;

@@ -10,6 +10,9 @@ use Rattle.rules.specs.Limits.{maxChunk, maxCapacity, maxWaiters, maxRedirects}
 use Rattle.rules.specs.Message.{Bytes}
 use Rattle.rules.specs.Session as R
 use Rattle.bidi_write.specs.Numbers.{toℕ}
+use Rattle.bidi_write.specs.declared.Check.{Check}
+use Rattle.bidi_write.specs.declared.Check.the-variants as check
+use Rattle.bidi_write.specs.declared.Refusal.the-variants as refusal
 use Rattle.state.specs.View.{SpecFits}
 use Rattle.replay_buffer.specs.View.{wordsOf, total, Sound}
 use Rattle.replay_buffer.specs.declared.ReplayBuffer.{ReplayBuffer}
@@ -75,3 +78,10 @@ pub record Valid (s : Session) (store : Bytes) (table : List ℕ) : Type 0 where
 pub record Decides (P : Type 0) (b : Bool) : Type 0 where
   pub yes : b ≡ true → P
   pub no : b ≡ false → P → ⊥
+
+-- what is asked before memory is touched: 7 whatever is lent, then 2 where the numbers don't fit
+pub record Enters (s : Session) (store table : ℕ) (r : Check) : Type 0 where
+  pub over : R.isEnded (phaseOf (s .phase)) ≡ true → r ≡ check.Refuse refusal.Ended
+  pub unfit : R.isEnded (phaseOf (s .phase)) ≡ false → (GuardedAt s store table → ⊥) → r ≡ check.Refuse refusal.ShortMemory
+  pub fits : R.isEnded (phaseOf (s .phase)) ≡ false → GuardedAt s store table → r ≡ check.Go
+  pub goes : r ≡ check.Go → (R.isEnded (phaseOf (s .phase)) ≡ false) × GuardedAt s store table

@@ -9,7 +9,7 @@ use Rattle.rules.specs.Session as R
 use Rattle.ring.specs.Ring.{part}
 use Rattle.bidi_write.specs.Numbers.{toℕ}
 use Rattle.bidi_write.specs.Refusal.{numberOf}
-use Rattle.bidi_write.specs.View.{checksumOf, requestOf, causeOf}
+use Rattle.bidi_write.specs.View.{checksumOf, lengthOf, requestOf, causeOf}
 use Rattle.replay_buffer.specs.View.{Lent}
 use Rattle.replay_buffer.specs.declared.ReplayBuffer.{ReplayBuffer}
 use Rattle.worker.specs.View.{workerOf}
@@ -80,3 +80,31 @@ answerOf (answer.Attempt n) out = R.attempt n
 answerOf answer.Accepted out = R.ok
 answerOf answer.Done out = R.done
 answerOf (answer.Ends e) out = R.ends (causeOf (e .cause)) (e .completed) (e .failed)
+
+-- the bytes that an answer says were taken
+abbrev pub takenIn : Answer → ℕ
+takenIn (answer.Refused x) = 0
+takenIn (answer.Took n r) = n
+takenIn (answer.Sends r) = 0
+takenIn (answer.Waits r n) = 0
+takenIn (answer.Completes c) = 0
+takenIn (answer.Attempt n) = 0
+takenIn answer.Accepted = 0
+takenIn answer.Done = 0
+takenIn (answer.Ends e) = 0
+
+abbrev pub maybeLength : MaybeRequest → ℕ
+maybeLength maybe.Absent = 0
+maybeLength (maybe.Present r) = lengthOf (r .«data»)
+
+-- the length that an answer's request gives its data
+abbrev pub sentLength : Answer → ℕ
+sentLength (answer.Refused x) = 0
+sentLength (answer.Took n r) = maybeLength r
+sentLength (answer.Sends r) = lengthOf (r .«data»)
+sentLength (answer.Waits r n) = lengthOf (r .«data»)
+sentLength (answer.Completes c) = maybeLength (c .request)
+sentLength (answer.Attempt n) = 0
+sentLength answer.Accepted = 0
+sentLength answer.Done = 0
+sentLength (answer.Ends e) = 0

@@ -1,14 +1,32 @@
-// The guard at the head of every call, for a record or memory that no call left.
-ghost use Rattle.transport.specs.Valid.{Guarded, GuardedAt, Decides};
+// What a call that touches memory asks first.
+ghost use Rattle.transport.specs.Valid.{Guarded, GuardedAt, Decides, Enters};
 use crate::Session;
+use crate::phases::phase_number;
+use admission::ENDED;
+use bidi_write::Check;
 use bidi_write::MAX_CAPACITY;
 use bidi_write::MAX_WRITE_CHUNK_SIZE;
 use bidi_write::Offset;
+use bidi_write::Refusal;
 use replay_buffer::ReplayBuffer;
 use worker::MAX_PENDING;
 
+// 7 whatever is lent, then 2 for a record or memory that no call left.
+pub fn enter(s: Session, store: usize, table: usize) -> Check
+    ensures { λ r. ⌜ Enters s store table r ⌝ }
+{
+    let p = s.phase;
+    if phase_number(p) == ENDED {
+        return Check::Refuse(Refusal::Ended);
+    }
+    if guard(s, store, table) {
+        return Check::Go;
+    }
+    Check::Refuse(Refusal::ShortMemory)
+}
+
 // Whether a record stays within a store and a table of these lengths.
-pub fn guard(s: Session, store: usize, table: usize) -> bool
+fn guard(s: Session, store: usize, table: usize) -> bool
     ensures { λ r. ⌜ Decides (GuardedAt s store table) r ⌝ }
 {
     let write_offset = s.write_offset;
