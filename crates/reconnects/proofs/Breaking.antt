@@ -26,7 +26,7 @@ use Rattle.bidi_write.specs.Refusal.{numberOf}
 use Rattle.admission.specs.Rows.{breakRows}
 use Rattle.transport.specs.View.{phaseOf, view}
 use Rattle.transport.specs.Valid.{Valid}
-use Rattle.transport.specs.Promise.{Promise}
+use Rattle.transport.specs.Promise.{First, Promise}
 use Rattle.bidi_write.specs.Refusal.{checked}
 use Rattle.transport.specs.Parts.{EndsAs}
 use Rattle.reconnects.specs.Follows.{awaits}
@@ -39,7 +39,9 @@ use Rattle.bidi_write.specs.declared.Refusal.{Refusal}
 use Rattle.transport.specs.declared.Sent.the-variants as sent
 use Rattle.transport.specs.declared.Session.{Session}
 use Rattle.bidi_write.proofs.Rows.{refused, passed, first-false, later}
+use Rattle.rules.proofs.Tests.{clash}
 use Rattle.transport.proofs.Refused.{refusal}
+use Rattle.transport.proofs.First.{over-first, first-free}
 use Rattle.transport.proofs.Numbers.{complete-is}
 use Rattle.transport.proofs.Views.{runs, valid-renewed}
 use Rattle.reconnects.proofs.Following.{promise, ended, rerouted-keeps}
@@ -124,9 +126,14 @@ module _ (s : Session) (store : Bytes) (table : List ℕ) (out : Bytes) (n : ℕ
 
   pub break-refuses : (x : Refusal) → breakTests n long ≡ check.Refuse x
       → Promise (R.break b) s store table out (record { session = s; answer = answer.Refused x }) store table out
-  break-refuses x e = refusal (R.break b) s store table out x (λ _. rule-refuses b (view s store table) x (at-view (check.Refuse x) e))
+  break-refuses x e =
+      refusal (R.break b) s store table out x (first-free (R.break b) s store table refl refl (λ f. over-first _ x _ e (ap (λ (k : ℕ). eqb k 6) phase-is ∙ f)))
+      (λ _. rule-refuses b (view s store table) x (at-view (check.Refuse x) e))
 
   module _ (go : breakTests n long ≡ check.Go) (complete : Bool) (complete-means : complete ≡ (s .worker .finalized && eqb (s .worker .«pending_requests» .count) 0)) where
+    goes-first : {r : Outcome} → First (R.break b) s store table out r store table out
+    goes-first = first-free (R.break b) s store table refl refl (λ f. clash f (runs s n phase-is _ _ go))
+
     complete-at : (t : Bool) → complete ≡ t → Valid s store table → R.complete (view s store table) ≡ t
     complete-at t e v = sym (complete-is s store table v) ∙ sym complete-means ∙ e
 
@@ -136,14 +143,14 @@ module _ (s : Session) (store : Bytes) (table : List ℕ) (out : Bytes) (n : ℕ
 
     pub break-finishes : (r : Outcome) → complete ≡ true → EndsAs cause.Finished 0 s r → Promise (R.break b) s store table out r store table out
     break-finishes r done ends =
-        promise (R.break b) _ s store table out r (ended cause.Finished 0 s r ends)
+        promise (R.break b) _ s store table out r goes-first (ended cause.Finished 0 s r ends)
         (λ v. sym (rule-finishes b (view s store table) (at-view check.Go go) (complete-at true done v)))
 
     module _ (waits : complete ≡ false) where
       pub break-closes : (cause : Cause) (r : Outcome) → eqb n 5 ≡ true → causeOf cause ≡ cond (M.isEnd b) R.finished R.streamError → EndsAs cause 0 s r
           → Promise (R.break b) s store table out r store table out
       break-closes cause r closing cause-is ends =
-          promise (R.break b) _ s store table out r (ended cause 0 s r ends)
+          promise (R.break b) _ s store table out r goes-first (ended cause 0 s r ends)
           (λ v. ap (λ (k : R.Cause). R.ending k 0 (view s store table)) cause-is
           ∙ sym (rule-closes b (view s store table) (at-view check.Go go) (complete-at false waits v) (closing-at true closing)))
 
@@ -152,10 +159,14 @@ module _ (s : Session) (store : Bytes) (table : List ℕ) (out : Bytes) (n : ℕ
           → (SpecFits (s .worker .connector .spec) → SpecFits (d .spec)) → Promise (R.break b) s store table out (awaits d redirect s) store table out
       unfolding view workerOf connectorOf
       break-awaits d redirect live redirect-is d-is fits = record {
+        first = goes-first;
         refuses = λ x f. let z : _≡_ {A = ℕ} 0 1 = cc in absurd (omega arith);
         store-beyond = refl;
         table-beyond = refl;
         out-beyond = refl;
+        takes = omega arith;
+        sent-is = refl;
+        sent-in = omega arith;
         steps = λ v. ap₂ (λ (t : Bool) (c : R.Connector). R.answers (R.attempt (cond t 0 (c .attemptCount)))
             (R.setPhase (R.verdict t) R.nothing (R.setWorker (R.setConnector c (R.setMark false (view s store table .worker))) (view s store table))))
             redirect-is d-is

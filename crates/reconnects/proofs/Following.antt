@@ -15,7 +15,7 @@ use Rattle.bidi_write.specs.declared.Cause.{Cause}
 use Rattle.bidi_write.specs.declared.Refusal.{Refusal}
 use Rattle.transport.specs.View.{view}
 use Rattle.transport.specs.Valid.{Valid}
-use Rattle.transport.specs.Promise.{Promise}
+use Rattle.transport.specs.Promise.{First, Promise}
 use Rattle.transport.specs.Parts.{EndsAs}
 use Rattle.transport.specs.declared.Answer.{Answer}
 use Rattle.transport.specs.declared.Answer.the-variants as answer
@@ -24,21 +24,29 @@ use Rattle.transport.specs.declared.Session.{Session}
 use Rattle.reconnects.specs.Follows.{Follows}
 
 -- where the rule followed is the call's
-pub promise : (c : R.Call) (rule : R.Session → R.Result) (s : Session) (store : Bytes) (table : List ℕ) (out : Bytes) (r : Outcome) → Follows rule s r
+pub promise : (c : R.Call) (rule : R.Session → R.Result) (s : Session) (store : Bytes) (table : List ℕ) (out : Bytes) (r : Outcome) → First c s store table out r store table out → Follows rule s r
     → (Valid s store table → rule (view s store table) ≡ step c (view s store table)) → Promise c s store table out r store table out
-promise c rule s store table out r f e = record {
-  refuses = λ x g. absurd (f .accepts x g);
+promise c rule s store table out r g f e = record {
+  first = g;
+  refuses = λ x h. absurd (f .quiet .accepts x h);
   store-beyond = refl;
   table-beyond = refl;
-  out-beyond = rw (f .no-data out) refl;
+  out-beyond = rw (f .quiet .no-data out, f .quiet .none-sent);
+  takes = omega (arith, f .quiet .none-taken);
+  sent-is = rw (f .quiet .no-data out, f .quiet .none-sent);
+  sent-in = omega (arith, f .quiet .none-sent);
   steps = λ v. f .steps store table out v ∙ e v;
   stays = f .stays store table;
 }
 
 pub ended : (c : Cause) (k : ℕ) (s : Session) (r : Outcome) → EndsAs c k s r → Follows (R.ending (causeOf c) k) s r
 ended c k s r e = record {
-  accepts = λ x f. never (r .answer) x (e .answer-is) f;
-  no-data = λ out. rw (e .answer-is) refl;
+  quiet = record {
+    accepts = λ x f. never (r .answer) x (e .answer-is) f;
+    none-taken = rw (e .answer-is);
+    none-sent = rw (e .answer-is);
+    no-data = λ out. rw (e .answer-is);
+  };
   steps = e .ends;
   stays = e .stays;
 }

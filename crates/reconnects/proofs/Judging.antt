@@ -40,6 +40,7 @@ use Rattle.rules.proofs.Tests.{clash}
 use Rattle.transport.proofs.Views.{runs, valid-renewed}
 use Rattle.bidi_write.proofs.Rows.{refused, passed, first-false, later}
 use Rattle.transport.proofs.Refused.{refusal}
+use Rattle.transport.proofs.First.{over-first, first-free}
 use Rattle.reconnects.proofs.Following.{promise, ended, rerouted-keeps}
 
 -- ---- a redirect that goes on is one of the first three
@@ -90,8 +91,7 @@ module _ (s : Session) (redirect : Bool) (verdict : ℕ) (d : Connector)
       })
   unfolding view workerOf ruled
   goes-on e = record {
-    accepts = λ x f. let z : _≡_ {A = ℕ} 0 1 = cc in absurd (omega arith);
-    no-data = λ out. refl;
+    quiet = record { accepts = λ x f. let z : _≡_ {A = ℕ} 0 1 = cc in absurd (omega arith); none-taken = refl; none-sent = refl; no-data = λ out. refl };
     steps = λ store table out v. as-judged none store table e v;
     stays = λ store table v.
         valid-renewed d _ phase.Connecting sent.Nothing s store table v (fits (v .spec-fits)) (λ _. low store table e v) tt;
@@ -102,8 +102,7 @@ module _ (s : Session) (redirect : Bool) (verdict : ℕ) (d : Connector)
       → Follows (judged redirect verdict) s r
   unfolding view workerOf ruled R.ending
   rules-end cause r e ends = record {
-    accepts = ended cause 0 _ r ends .accepts;
-    no-data = ended cause 0 _ r ends .no-data;
+    quiet = ended cause 0 _ r ends .quiet;
     steps = λ store table out v. ends .ends store table out (over store table v) ∙ as-judged (some (causeOf cause)) store table e v;
     stays = λ store table v. ends .stays store table (over store table v);
   }
@@ -154,13 +153,17 @@ module _ (s : Session) (n verdict : ℕ) (phase-is : n ≡ R.phaseNumber (phaseO
 
     pub judge-refuses : (x : Refusal) → judgeTests n valid ≡ check.Refuse x
         → Promise (R.judge verdict) s store table out (record { session = s; answer = answer.Refused x }) store table out
-    judge-refuses x e = refusal (R.judge verdict) s store table out x (λ _. judge-refused verdict (view s store table) x (judge-at (check.Refuse x) e))
+    judge-refuses x e =
+        refusal (R.judge verdict) s store table out x (first-free (R.judge verdict) s store table refl refl (λ f. over-first _ x _ e (ap (λ (k : ℕ). eqb k 6) phase-is ∙ f)))
+        (λ _. judge-refused verdict (view s store table) x (judge-at (check.Refuse x) e))
 
     pub judge-goes : (r : Outcome) → judgeTests n valid ≡ check.Go
         → (R.isEnded (phaseOf (s .phase)) ≡ false → Follows (judged (onRedirect (phaseOf (s .phase))) verdict) s r)
         → Promise (R.judge verdict) s store table out r store table out
     unfolding view
-    judge-goes r e f = promise (R.judge verdict) _ s store table out r (f (runs s n phase-is _ _ e)) (λ _. sym (judge-passed verdict (view s store table) (judge-at check.Go e)))
+    judge-goes r e f =
+        promise (R.judge verdict) _ s store table out r (first-free (R.judge verdict) s store table refl refl (λ g. clash g (runs s n phase-is _ _ e)))
+        (f (runs s n phase-is _ _ e)) (λ _. sym (judge-passed verdict (view s store table) (judge-at check.Go e)))
 
   module _ (b : M.Break) (long : Bool) (long-is : long ≡ overlong (M.redirectIn b)) where
     module _ (store : Bytes) (table : List ℕ) (out : Bytes) where
@@ -172,7 +175,9 @@ module _ (s : Session) (n verdict : ℕ) (phase-is : n ≡ R.phaseNumber (phaseO
       pub fail-refuses : (x : Refusal) → failTests n valid long ≡ check.Refuse x
           → Promise (R.failedAttempt b verdict) s store table out (record { session = s; answer = answer.Refused x }) store table out
       fail-refuses x e =
-          refusal (R.failedAttempt b verdict) s store table out x (λ _. fail-refused verdict (view s store table) b x (fail-at (check.Refuse x) e))
+          refusal (R.failedAttempt b verdict) s store table out x
+          (first-free (R.failedAttempt b verdict) s store table refl refl (λ f. over-first _ x _ e (ap (λ (k : ℕ). eqb k 6) phase-is ∙ f)))
+          (λ _. fail-refused verdict (view s store table) b x (fail-at (check.Refuse x) e))
 
       -- d is the connector with the redirect taken over
       pub fail-goes : (d : Connector) (r : Outcome) → failTests n valid long ≡ check.Go
@@ -185,13 +190,12 @@ module _ (s : Session) (n verdict : ℕ) (phase-is : n ≡ R.phaseNumber (phaseO
       fail-goes d r e d-is fits f =
           promise (R.failedAttempt b verdict)
           (λ (v : R.Session). judged (M.isRedirect b) verdict (R.setWorker (R.setConnector (rerouted (M.redirectIn b) (v .worker .connector)) (v .worker)) v))
-          s store table out r
+          s store table out r (first-free (R.failedAttempt b verdict) s store table refl refl (λ g. clash g run))
           (record {
-            accepts = f (run) .accepts;
-            no-data = f (run) .no-data;
-            steps = λ store table out v. f (run) .steps store table out (kept store table v)
+            quiet = f run .quiet;
+            steps = λ store table out v. f run .steps store table out (kept store table v)
                 ∙ ap (λ (c : R.Connector). judged (M.isRedirect b) verdict (R.setWorker (R.setConnector c (view s store table .worker)) (view s store table))) d-is;
-            stays = λ store table v. f (run) .stays store table (kept store table v);
+            stays = λ store table v. f run .stays store table (kept store table v);
           })
           (λ _. sym (fail-passed verdict (view s store table) b (fail-at check.Go e)))
         where

@@ -1,7 +1,7 @@
 -- A call past its refusals: what a rule says of the rest.
 use mathlib.Core.Path.{_≡_}
 use mathlib.Core.Bool.{Bool, false, cond}
-use mathlib.Core.List.{List, []}
+use mathlib.Core.List.{List}
 use Prim.Native.Nat.{ℕ}
 use Rattle.rules.specs.Message.{Bytes}
 use Rattle.rules.specs.Session as R
@@ -9,21 +9,19 @@ use Rattle.rules.specs.Reconnect.{ruling, counted, ruled}
 use Rattle.connector.specs.declared.Connector.{Connector}
 use Rattle.transport.specs.View.{view, answerOf}
 use Rattle.transport.specs.Valid.{Valid}
-use Rattle.transport.specs.Promise.{sentData}
+use Rattle.transport.specs.Promise.{Quiet}
 use Rattle.transport.specs.Parts.{renewed}
 use Rattle.transport.specs.declared.Answer.the-variants as answer
 use Rattle.transport.specs.declared.Outcome.{Outcome}
 use Rattle.transport.specs.declared.Phase.{Phase}
 use Rattle.transport.specs.declared.Phase.the-variants as phase
-use Rattle.bidi_write.specs.declared.Refusal.{Refusal}
 use Rattle.transport.specs.declared.Sent.{Sent}
 use Rattle.transport.specs.declared.Sent.the-variants as sent
 use Rattle.transport.specs.declared.Session.{Session}
 
 -- r answers and leaves what the rule says, refuses nothing and sends no data
 pub record Follows (rule : R.Session → R.Result) (s : Session) (r : Outcome) : Type 0 where
-  pub accepts : (x : Refusal) → r .answer ≡ answer.Refused x → ⊥
-  pub no-data : (out : Bytes) → sentData (r .answer) out ≡ []
+  pub quiet : Quiet (r .answer)
   pub steps : (store : Bytes) (table : List ℕ) (out : Bytes) → Valid s store table
       → R.answers (answerOf (r .answer) out) (view (r .session) store table) ≡ rule (view s store table)
   pub stays : (store : Bytes) (table : List ℕ) → Valid s store table → Valid (r .session) store table

@@ -22,6 +22,13 @@ use Rattle.transport.specs.declared.Outcome.{Outcome}
 abbrev pub sentData : Answer → Bytes → Bytes
 sentData a out = dataIn (requestIn (answerOf a out))
 
+-- an answer that refuses nothing, takes no byte and sends no data
+pub record Quiet (a : Answer) : Type 0 where
+  pub accepts : (x : Refusal) → a ≡ answer.Refused x → ⊥
+  pub none-taken : takenIn a ≡ 0
+  pub none-sent : sentLength a ≡ 0
+  pub no-data : (out : Bytes) → sentData a out ≡ []
+
 -- the bytes that a call offers, whether it is an append of nothing, and whether it is lent the store or the table
 pub record Asked : Type 0 where
   pub offered : Bytes
