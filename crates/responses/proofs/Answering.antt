@@ -1,17 +1,18 @@
 -- The last step of a response or handshake: a bare flush, nothing, a replay, or the end.
 -- Assumes nothing.
-use mathlib.Core.Path.{_≡_, refl, sym, ap, _∙_}
+use mathlib.Core.Path.{_≡_, refl, sym, ap, _∙_, subst}
 use mathlib.Core.Bool.{Bool, true, false, not, _&&_}
-use mathlib.Core.Option.{some}
-use mathlib.Core.List.{List}
+use mathlib.Core.Option.{none, some}
+use mathlib.Core.List.{List, []}
 use Prim.Native.Nat.{ℕ, _*_, _-_}
 use native.Mathlib.Omega.{arith}
 use lib.Dec.{leb, eqb}
 use Rattle.rules.specs.Message.{Bytes}
+use Rattle.rules.specs.Message as M
 use Rattle.rules.specs.Session as R
 use Rattle.rules.specs.Respond.{lastStep, toReplay}
 use Rattle.rules.specs.Upload.{flushRequest}
-use Rattle.bidi_write.specs.View.{requestOf}
+use Rattle.bidi_write.specs.View.{lengthOf, requestOf}
 use Rattle.bidi_write.specs.declared.Cause.{Cause}
 use Rattle.bidi_write.specs.declared.Request.{Request}
 use Rattle.worker.specs.View.{workerOf}
@@ -19,9 +20,8 @@ use Rattle.worker.specs.declared.Worker.{Worker}
 use Rattle.transport.specs.View.{phaseOf, view}
 use Rattle.transport.specs.Valid.{Valid}
 use Rattle.transport.specs.Parts.{setPhase, setWorker, EndsAs}
-use Rattle.transport.specs.Promise.{sentData}
+use Rattle.transport.specs.Promise.{Quiet}
 use Rattle.responses.specs.Respond.{Flushes, Answers}
-use Rattle.transport.specs.declared.Answer.{Answer}
 use Rattle.transport.specs.declared.Answer.the-variants as answer
 use Rattle.transport.specs.declared.Completed.{Completed}
 use Rattle.transport.specs.declared.Ending.{Ending}
@@ -32,6 +32,7 @@ use Rattle.bidi_write.specs.declared.Refusal.{Refusal}
 use Rattle.transport.specs.declared.Sent.the-variants as sent
 use Rattle.transport.specs.declared.Session.{Session}
 use Rattle.responses.specs.declared.Way.the-variants as way
+use Rattle.bidi_write.proofs.Lengths.{no-length}
 use Rattle.rules.proofs.Tests.{and-left, and-right}
 use Rattle.transport.proofs.Numbers.{watermark-is}
 use Rattle.transport.proofs.Views.{no-cursor, live-no-replay}
@@ -59,8 +60,15 @@ flushes-at s n is e low l = record {
 completes-accepts : (d : Completed) (x : Refusal) → answer.Completes d ≡ answer.Refused x → ⊥
 completes-accepts d x e = let z : _≡_ {A = ℕ} 0 1 = cc in absurd (omega arith)
 
-ends-accepts : (d : Ending) (x : Refusal) → answer.Ends d ≡ answer.Refused x → ⊥
-ends-accepts d x e = let z : _≡_ {A = ℕ} 0 1 = cc in absurd (omega arith)
+bare-length : (q : Request) → requestOf q [] .checksummedData ≡ none → lengthOf (q .«data») ≡ 0
+unfolding requestOf
+bare-length q e = no-length (q .«data») [] e
+
+completes-none : (k : ℕ) → Quiet (answer.Completes (record { waiters = k; request = maybe.Absent }))
+completes-none k = record { accepts = completes-accepts _; none-taken = refl; none-sent = refl; no-data = λ out. refl }
+
+ends-quiet : (d : Ending) → Quiet (answer.Ends d)
+ends-quiet d = record { accepts = λ x e. let z : _≡_ {A = ℕ} 0 1 = cc in absurd (omega arith); none-taken = refl; none-sent = refl; no-data = λ out. refl }
 
 -- the worker with an own flush outstanding
 abbrev pub marked : Worker → Worker
@@ -89,8 +97,12 @@ module _ (s : Session) (k : ℕ) where
       answer = answer.Completes (record { waiters = k; request = maybe.Present q });
     })
     answers-flush = record {
-      accepts = completes-accepts _;
-      no-data = λ out. rw (is out);
+      quiet = record {
+        accepts = completes-accepts _;
+        none-taken = refl;
+        none-sent = bare-length q (ap (λ (r : M.Request). r .checksummedData) (is []));
+        no-data = λ out. rw (is out);
+      };
       answers = flushed;
       stays = λ store table e v. record {
         guarded = v .guarded;
@@ -106,8 +118,7 @@ module _ (s : Session) (k : ℕ) where
   pub answers-nothing : Flushes s false → Answers lastStep (way.On k) s (record { session = setPhase (s .phase) sent.Nothing s; answer = answer.Completes (record { waiters = k; request = maybe.Absent }) })
   unfolding lastStep view
   answers-nothing asked = record {
-    accepts = completes-accepts _;
-    no-data = λ out. refl;
+    quiet = completes-none k;
     answers = λ store table out v. sym (passed-over _ _ (sym (asked .flushes store table v)));
     stays = λ store table e v. valid-phase (s .phase) sent.Nothing s store table v (v .followed) (v .cursor);
   }
@@ -118,16 +129,14 @@ module _ (s : Session) (k : ℕ) where
   })
   unfolding toReplay view
   answers-replay = record {
-    accepts = completes-accepts _;
-    no-data = λ out. refl;
+    quiet = completes-none k;
     answers = λ store table out v. refl;
     stays = λ store table e v. valid-phase _ sent.Nothing s store table v (λ _. v .followed e) (refl, omega arith);
   }
 
   pub answers-end : (last : ℕ → R.Session → R.Result) (c : Cause) (r : Outcome) → EndsAs c k s r → Answers last (way.Ends c k) s r
   answers-end last c r ends = record {
-    accepts = λ x e. ends-accepts _ x (sym (ends .answer-is) ∙ e);
-    no-data = λ out. ap (λ (a : Answer). sentData a out) (ends .answer-is);
+    quiet = subst Quiet (sym (ends .answer-is)) (ends-quiet _);
     answers = ends .ends;
     stays = λ store table e v. ends .stays store table v;
   }

@@ -1,8 +1,8 @@
 -- What the parts of a response or handshake promise.
 use mathlib.Core.Path.{_≡_}
-use mathlib.Core.Bool.{Bool, false, not, _&&_, _||_}
+use mathlib.Core.Bool.{Bool, true, false, not, _&&_, _||_}
 use mathlib.Core.Option.{Option}
-use mathlib.Core.List.{List, []}
+use mathlib.Core.List.{List}
 use Prim.Native.Nat.{ℕ}
 use lib.IntN.{ℤ}
 use lib.ListN.{drop}
@@ -17,12 +17,11 @@ use Rattle.transport.specs.View.{phaseOf, view, answerOf}
 use Rattle.transport.specs.Valid.{GuardedAt, Valid}
 use Rattle.bidi_write.specs.Refusal.{Rows, checked}
 use Rattle.transport.specs.Parts.{setWorker}
-use Rattle.transport.specs.Promise.{sentData}
-use Rattle.transport.specs.declared.Answer.the-variants as answer
+use Rattle.transport.specs.Promise.{Quiet}
 use Rattle.bidi_write.specs.declared.Check.{Check}
 use Rattle.bidi_write.specs.declared.Check.the-variants as check
 use Rattle.transport.specs.declared.Outcome.{Outcome}
-use Rattle.bidi_write.specs.declared.Refusal.{Refusal}
+use Rattle.bidi_write.specs.declared.Refusal.the-variants as refusal
 use Rattle.transport.specs.declared.Session.{Session}
 use Rattle.responses.specs.declared.Absorbed.{Absorbed}
 use Rattle.responses.specs.declared.Taken.{Taken}
@@ -36,11 +35,12 @@ receives right p m = messageRows (R.isEnded p) (not (right p)) (M.over M.maxHand
 abbrev pub isOpen : R.Phase → Bool
 isOpen p = R.isLive p || R.isClosing p
 
--- the guard, and then the refusals: memory that does not fit is refused, whatever the tests say
+-- what is asked before memory is touched, and then the refusals
 pub record Admits (s : Session) (store table : ℕ) (tests : Rows) (r : Check) : Type 0 where
-  pub fits : r ≡ check.Go → GuardedAt s store table
-  pub goes : r ≡ check.Go → checked tests ≡ check.Go
-  pub refuses : (x : Refusal) → r ≡ check.Refuse x → GuardedAt s store table → checked tests ≡ check.Refuse x
+  pub over : R.isEnded (phaseOf (s .phase)) ≡ true → r ≡ check.Refuse refusal.Ended
+  pub unfit : R.isEnded (phaseOf (s .phase)) ≡ false → (GuardedAt s store table → ⊥) → r ≡ check.Refuse refusal.ShortMemory
+  pub tested : R.isEnded (phaseOf (s .phase)) ≡ false → GuardedAt s store table → r ≡ checked tests
+  pub goes : r ≡ check.Go → (R.isEnded (phaseOf (s .phase)) ≡ false) × GuardedAt s store table
 
 -- the session with another connector and no own flush outstanding
 abbrev pub withConnector : Connector → Session → Session
@@ -97,8 +97,7 @@ pub record Flushes (s : Session) (r : Bool) : Type 0 where
 
 -- the last step of a response or handshake, which no memory is lent to
 pub record Answers (last : ℕ → R.Session → R.Result) (w : Way) (s : Session) (r : Outcome) : Type 0 where
-  pub accepts : (x : Refusal) → r .answer ≡ answer.Refused x → ⊥
-  pub no-data : (out : Bytes) → sentData (r .answer) out ≡ []
+  pub quiet : Quiet (r .answer)
   pub answers : (store : Bytes) (table : List ℕ) (out : Bytes) → Valid s store table
       → R.answers (answerOf (r .answer) out) (view (r .session) store table) ≡ onward w last (view s store table)
   pub stays : (store : Bytes) (table : List ℕ) → R.isEnded (phaseOf (s .phase)) ≡ false → Valid s store table → Valid (r .session) store table

@@ -21,7 +21,6 @@ use admission::is_streaming;
 use bidi_write::Cause;
 use bidi_write::Check;
 use bidi_write::Offset;
-use bidi_write::Refusal;
 use bidi_write::Response;
 use bidi_write::Size;
 use bidi_write::WriteStatus;
@@ -34,7 +33,7 @@ use transport::Outcome;
 use transport::Phase;
 use transport::Sent;
 use transport::Session;
-use transport::guard::guard;
+use transport::guard::enter;
 use transport::parts::end;
 use transport::parts::renew;
 use transport::parts::set_phase;
@@ -125,14 +124,15 @@ fn admit_handshake(s: Session, store: usize, table: usize, m: Response, handle: 
     admit(s, store, table, phase == ENDED, phase != CONNECTING, long)
 }
 
-// The guard, and then the refusals.
+// What is asked before memory is touched, and then the refusals.
 fn admit(s: Session, store: usize, table: usize, ended: bool, phase: bool, long: bool) -> Check
     ensures { λ r. ⌜ Admits s store table (messageRows ended phase long) r ⌝ }
 {
-    if !guard(s, store, table) {
-        return Check::Refuse(Refusal::ShortMemory);
+    let way = enter(s, store, table);
+    match way {
+        Check::Refuse(x) => Check::Refuse(x),
+        Check::Go => admission::message(ended, phase, long),
     }
-    admission::message(ended, phase, long)
 }
 
 // ---- the spec, the counts and the mark
