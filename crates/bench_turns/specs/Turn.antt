@@ -12,10 +12,8 @@ use Rattle.transport.specs.View.{answerOf}
 use Rattle.transport.specs.Promise.{Promise}
 use Rattle.transport.specs.declared.Answer.{Answer}
 use Rattle.transport.specs.declared.Outcome.{Outcome}
-use Rattle.bidi_write.specs.declared.Refusal.{Refusal}
 use Rattle.transport.specs.declared.Session.{Session}
-use Rattle.openings.specs.Opening.{Refuses, Accepts}
-use Rattle.openings.specs.declared.OpenAnswer.the-variants as opening-answer
+use Rattle.openings.specs.Opening.{OpensAs}
 use Rattle.openings.specs.declared.Opened.{Opened}
 use Rattle.bench_records.specs.declared.CallRecord.{CallRecord}
 use Rattle.bench_records.specs.declared.CallRecord.the-variants as call
@@ -31,10 +29,8 @@ abbrev pub Lent : Bytes → List ℕ → Type 0
 Lent store table = (length store ≡ 32768) × (length table ≡ 64)
 
 -- an OP record, with C, capacity and P, opens a session as the rules do
-pub record Opens (limit capacity : ℕ) (p : ℤ) (store : Bytes) (table : List ℕ) (r : Opened) (store′ : Bytes) (table′ : List ℕ) : Type 0 where
-  pub refuses : Lent store table → (x : Refusal) → r .answer ≡ opening-answer.Refused x
-      → Refuses (opening limit capacity p none) store table x (r .session) store′ table′
-  pub accepts : Lent store table → r .answer ≡ opening-answer.Opened → Accepts (opening limit capacity p none) store table (r .session) store′ table′
+abbrev pub Opens : ℕ → ℕ → ℤ → Bytes → List ℕ → Opened → Bytes → List ℕ → Type 0
+Opens limit capacity p store table r store′ table′ = Lent store table → OpensAs (opening limit capacity p none) store table r store′ table′
 
 -- ---- a call
 

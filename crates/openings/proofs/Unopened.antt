@@ -1,11 +1,10 @@
 -- The session of a refused opening: it ended, is valid, and is refused by every later call.
 -- Assumes nothing.
-use mathlib.Core.Path.{_≡_, refl, sym, ap, _∙_, subst}
+use mathlib.Core.Path.{_≡_, refl, sym, ap, _∙_}
 use mathlib.Core.Bool.{true}
 use mathlib.Core.List.{List, [], _∷_}
 use Prim.Native.Nat.{ℕ, _≤_}
 use native.Mathlib.Omega.{arith}
-use lib.IntN.{pos}
 use lib.ListN.{length}
 use Rattle.rules.specs.Message.{Bytes}
 use Rattle.rules.specs.Session as R
@@ -14,58 +13,46 @@ use Rattle.rules.specs.Respond.{responds, shakes}
 use Rattle.rules.specs.Reconnect.{breaks, judges, fails}
 use Rattle.rules.specs.Replay.{hands, unsent}
 use Rattle.rules.specs.Step.{step}
-use Rattle.bidi_write.specs.declared.Cause.the-variants as cause
-use Rattle.bidi_write.specs.declared.Checksum.{Checksum}
-use Rattle.bidi_write.specs.declared.Offset.{Offset}
-use Rattle.state.specs.View.{SpecFits}
-use Rattle.connector.specs.declared.Connector.{Connector}
 use Rattle.replay_buffer.proofs.Laws.{empty-sound}
-use Rattle.worker.specs.View.{waitersOf}
-use Rattle.worker.specs.declared.PendingRequests.{PendingRequests}
-use Rattle.transport.specs.View.{lentOf, view, answerOf}
+use Rattle.worker.proofs.Waiters.{none-waits, none-counted}
+use Rattle.transport.specs.View.{phaseOf, lentOf, view, answerOf}
+use Rattle.transport.specs.Valid.{Valid}
 use Rattle.transport.specs.Promise.{Promise}
-use Rattle.openings.specs.Opening.{Unopened, emptyOf, freshSession, Fresh}
+use Rattle.openings.specs.Opening.{emptyOf, noSpec, unopened}
 use Rattle.transport.specs.declared.Outcome.{Outcome}
-use Rattle.transport.specs.declared.Phase.the-variants as phase
-use Rattle.transport.specs.declared.Session.{Session}
 use Rattle.rules.proofs.Tests.{clash}
 
-module _ (sum : Checksum) (c : Connector) (size : Offset) (spec-fits : SpecFits (c .spec)) where
-  abbrev left : PendingRequests → Session
-  left q = freshSession 1 1 (phase.Ended cause.GivenUp) (record { 0 = pos 0 }) sum c (emptyOf 3) size q
+pub unopened-ended : R.isEnded (phaseOf (unopened .phase)) ≡ true
+unfolding unopened
+unopened-ended = refl
 
-  left-unopened : (q : PendingRequests) → waitersOf q ≡ [] → q .count ≡ 0 → Unopened (left q)
-  left-unopened q e n = record {
-    ended = refl;
-    valid = λ store table hs ht. record {
-      guarded = record {
-        limit-some = omega arith;
-        limit-top = omega arith;
-        capacity-low = omega arith;
-        capacity-top = omega arith;
-        store-lent = hs;
-        table-lent = ht;
-        head-in = omega arith;
-        stored-in = omega arith;
-        held-in = omega arith;
-        first-in = omega arith;
-        chunks-in = omega arith;
-        waiting-in = omega arith;
-        offset-in = refl;
-        offset-top = omega arith;
-        started = omega arith;
-      };
-      slots-in = omega arith;
-      sound = empty-sound (lentOf (left q)) (emptyOf 3) table refl refl 1;
-      waiting-is = ap length e ∙ sym n;
-      spec-fits = spec-fits;
-      followed = λ f. clash refl f;
-      cursor = tt;
-    };
-  }
-
-  pub unopened : (s : Session) → Fresh 1 1 (phase.Ended cause.GivenUp) (record { 0 = pos 0 }) sum c (emptyOf 3) size s → Unopened s
-  unopened s fresh = subst Unopened (sym (fresh .record-is)) (left-unopened (s .worker .«pending_requests») (fresh .none-waits) (fresh .count-is))
+pub unopened-valid : (store : Bytes) (table : List ℕ) → 3 ≤ length store → 1 ≤ length table → Valid unopened store table
+unfolding unopened noSpec
+unopened-valid store table hs ht = record {
+  guarded = record {
+    limit-some = omega arith;
+    limit-top = omega arith;
+    capacity-low = omega arith;
+    capacity-top = omega arith;
+    store-lent = hs;
+    table-lent = ht;
+    head-in = omega arith;
+    stored-in = omega arith;
+    held-in = omega arith;
+    first-in = omega arith;
+    chunks-in = omega arith;
+    waiting-in = omega (arith, none-counted);
+    offset-in = refl;
+    offset-top = omega arith;
+    started = omega arith;
+  };
+  slots-in = omega arith;
+  sound = empty-sound (lentOf unopened) (emptyOf 3) table refl refl 1;
+  waiting-is = ap length none-waits ∙ sym none-counted;
+  spec-fits = record { bucket = omega arith; object = omega arith; handle = omega arith; token = omega arith };
+  followed = λ f. clash refl f;
+  cursor = tt;
+}
 
 -- ---- later calls
 
@@ -85,9 +72,9 @@ ended-refuses (R.judge n) v e h = rw e
 ended-refuses (R.failedAttempt b n) v e h = rw e
 
 -- a later call, unless it is an append of nothing, is refused with 7
-pub later-refused : (c : R.Call) (s : Session) (store : Bytes) (table : List ℕ) (out : Bytes) (r : Outcome) (store′ : Bytes) (table′ : List ℕ) (out′ : Bytes)
-    → Unopened s → 3 ≤ length store → 1 ≤ length table → ((n : ℕ) → c ≡ R.append [] n → ⊥)
-    → Promise c s store table out r store′ table′ out′ → answerOf (r .answer) out′ ≡ R.refused 7
+pub later-refused : (c : R.Call) (store : Bytes) (table : List ℕ) (out : Bytes) (r : Outcome) (store′ : Bytes) (table′ : List ℕ) (out′ : Bytes)
+    → 3 ≤ length store → 1 ≤ length table → ((n : ℕ) → c ≡ R.append [] n → ⊥)
+    → Promise c unopened store table out r store′ table′ out′ → answerOf (r .answer) out′ ≡ R.refused 7
 unfolding view
-later-refused c s store table out r store′ table′ out′ u hs ht h p =
-    ap (λ (x : R.Result). x .answer) (p .steps (u .valid store table hs ht) ∙ ended-refuses c (view s store table) (ap R.isEnded (u .ended)) h)
+later-refused c store table out r store′ table′ out′ hs ht h p =
+    ap (λ (x : R.Result). x .answer) (p .steps (unopened-valid store table hs ht) ∙ ended-refuses c (view unopened store table) unopened-ended h)

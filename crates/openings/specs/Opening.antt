@@ -2,10 +2,10 @@
 use mathlib.Core.Path.{_≡_}
 use mathlib.Core.Bool.{false, _&&_}
 use mathlib.Core.Option.{Option, none, some, Option·getD}
-use mathlib.Core.List.{List, []}
+use mathlib.Core.List.{List}
 use Prim.Native.Nat.{ℕ, _+_, _*_, _<_, _≤_, max}
-use lib.ListN.{length, drop}
-use lib.IntN.{ℤ}
+use lib.ListN.{length, drop, replicate}
+use lib.IntN.{ℤ, pos}
 use Rattle.rules.specs.Limits.{maxChunk, maxCapacity, defaultCapacity, storeSize}
 use Rattle.crc32c.specs.Reg.{crcOf}
 use Rattle.rules.specs.Message as M
@@ -15,26 +15,31 @@ use Rattle.rules.specs.Spec as S
 use Rattle.rules.specs.Session as R
 use Rattle.rules.specs.Opening as O
 use Rattle.bidi_write.specs.View.{generationOf, checksumOf, given, responseOf}
+use Rattle.bidi_write.specs.declared.Cause.the-variants as cause
 use Rattle.bidi_write.specs.declared.Checksum.{Checksum}
+use Rattle.bidi_write.specs.declared.Checksum.the-variants as checksum
 use Rattle.bidi_write.specs.declared.Offset.{Offset}
 use Rattle.state.specs.View.{conditionOf, opened, specOf, SpecFits}
+use Rattle.state.specs.declared.AppendObjectSpec.{AppendObjectSpec}
+use Rattle.state.specs.declared.Condition.the-variants as condition
 use Rattle.connector.specs.declared.Connector.{Connector}
 use Rattle.replay_buffer.specs.View.{lent, queueOf, Fits, Sound}
 use Rattle.replay_buffer.specs.declared.ReplayBuffer.{ReplayBuffer}
-use Rattle.worker.specs.View.{waitersOf}
-use Rattle.worker.specs.declared.PendingRequests.{PendingRequests}
+use Rattle.worker.specs.View.{noWaiters}
 use Rattle.bidi_write.specs.Refusal.{numberOf}
-use Rattle.transport.specs.View.{phaseOf, lentOf, view}
+use Rattle.transport.specs.View.{lentOf, view}
 use Rattle.transport.specs.Valid.{Valid}
 use Rattle.bidi_write.specs.declared.Check.{Check}
 use Rattle.bidi_write.specs.declared.Check.the-variants as check
 use Rattle.transport.specs.declared.Phase.{Phase}
+use Rattle.transport.specs.declared.Phase.the-variants as phase
 use Rattle.transport.specs.declared.Sent.the-variants as sent
 use Rattle.bidi_write.specs.declared.Refusal.{Refusal}
 use Rattle.transport.specs.declared.Session.{Session}
 use Rattle.openings.specs.declared.Capacity.{Capacity}
 use Rattle.openings.specs.declared.Capacity.the-variants as capacity
 use Rattle.openings.specs.declared.Opening.{Opening}
+use Rattle.openings.specs.declared.OpenAnswer.{OpenAnswer}
 use Rattle.openings.specs.declared.OpenAnswer.the-variants as answer
 use Rattle.openings.specs.declared.Opened.{Opened}
 
@@ -81,30 +86,69 @@ openingOf o b store table = record {
   lastPersistedSize = o .«last_persisted_size» .0;
 }
 
--- a session that ended, which is valid with any memory that has its smallest ring and one slot: there every later call refuses it with 7
-pub record Unopened (s : Session) : Type 0 where
-  pub ended : phaseOf (s .phase) ≡ R.ended R.givenUp
-  pub valid : (store : Bytes) (table : List ℕ) → 3 ≤ length store → 1 ≤ length table → Valid s store table
+-- ---- the session of a refused opening
 
--- a refused opening touches nothing
-pub record Refuses (o : O.Opening) (store : Bytes) (table : List ℕ) (x : Refusal) (s : Session) (store′ : Bytes) (table′ : List ℕ) : Type 0 where
-  pub opens-is : O.opens o ≡ O.turnedAway (numberOf x)
-  pub unopened : Unopened s
-  pub store-is : store′ ≡ store
-  pub table-is : table′ ≡ table
+abbrev pub emptyOf : ℕ → ReplayBuffer
+emptyOf capacity = record { capacity = capacity; head = 0; «unpersisted_bytes» = 0; first = 0; chunks = 0 }
 
--- an accepted one leaves the rules' session, and what is lent beyond its ring and slots as it was
-pub record Accepts (o : O.Opening) (store : Bytes) (table : List ℕ) (s : Session) (store′ : Bytes) (table′ : List ℕ) : Type 0 where
-  pub opens-is : O.opens o ≡ O.opened (view s store′ table′)
-  pub valid : Valid s store′ table′
-  pub store-beyond : drop (lentOf s .size) store′ ≡ drop (lentOf s .size) store
-  pub table-beyond : drop (s .slots) table′ ≡ drop (s .slots) table
+-- no waiter, and nothing held
+abbrev pub freshSession : ℕ → ℕ → Phase → Offset → Checksum → Connector → ReplayBuffer → Offset → Session
+freshSession limit slots p at sum c b size = record {
+  limit = limit;
+  slots = slots;
+  phase = p;
+  sent = sent.Nothing;
+  made = 0;
+  «write_offset» = at;
+  «running_crc32c» = sum;
+  held = 0;
+  worker = record { connector = c; «replay_buffer» = b; «pending_requests» = noWaiters; «persisted_size» = size; finalized = false; «self_flush_outstanding» = false };
+}
+
+abbrev pub zeros : ℕ → Bytes
+zeros n = replicate n 0
+
+-- no name, generation, handle, token or condition
+unfoldable pub noSpec : AppendObjectSpec
+noSpec = record {
+  bucket = record { bytes = zeros 256; length = 0 };
+  object = record { bytes = zeros 1024; length = 0 };
+  generation = record { 0 = pos 0 };
+  «write_handle» = record { given = false; bytes = zeros 1024; length = 0 };
+  «routing_token» = record { given = false; bytes = zeros 512; length = 0 };
+  «if_metageneration_match» = condition.Absent;
+  «if_metageneration_not_match» = condition.Absent;
+}
+
+abbrev pub atZero : Offset
+atZero = record { 0 = pos 0 }
+
+-- one that ended, with the smallest ring and one slot
+unfoldable pub unopened : Session
+unopened =
+    freshSession 1 1 (phase.Ended cause.GivenUp) atZero checksum.Unknown
+    (record { spec = noSpec; «attempt_count» = 0; «redirects_followed» = 0; «last_persisted_size» = atZero }) (emptyOf 3) atZero
+
+-- ---- the promise
+
+-- what the opening answered and left, as the rules have it
+abbrev pub openedOf : OpenAnswer → R.Session → O.Opened
+openedOf (answer.Refused x) s = O.turnedAway (numberOf x)
+openedOf answer.Opened s = O.opened s
+
+-- the rules' opening o, from the store and table lent to what it answered and left of them
+pub record OpensAs (o : O.Opening) (store : Bytes) (table : List ℕ) (r : Opened) (store′ : Bytes) (table′ : List ℕ) : Type 0 where
+  pub opens-is : openedOf (r .answer) (view (r .session) store′ table′) ≡ O.opens o
+  -- a refused opening touches nothing, and leaves a session that ended
+  pub refuses : (x : Refusal) → r .answer ≡ answer.Refused x → (r .session ≡ unopened) × (store′ ≡ store) × (table′ ≡ table)
+  -- what is lent beyond ring and slots is untouched
+  pub store-beyond : drop (lentOf (r .session) .size) store′ ≡ drop (lentOf (r .session) .size) store
+  pub table-beyond : drop (r .session .slots) table′ ≡ drop (r .session .slots) table
+  pub valid : r .answer ≡ answer.Opened → Valid (r .session) store′ table′
 
 -- for any input whatever
-pub record Opens (o : Opening) (b : Beside) (store : Bytes) (table : List ℕ) (r : Opened) (store′ : Bytes) (table′ : List ℕ) : Type 0 where
-  pub refuses : (x : Refusal) → r .answer ≡ answer.Refused x
-      → Refuses (openingOf o b (length store) (length table)) store table x (r .session) store′ table′
-  pub accepts : r .answer ≡ answer.Opened → Accepts (openingOf o b (length store) (length table)) store table (r .session) store′ table′
+abbrev pub Opens : Opening → Beside → Bytes → List ℕ → Opened → Bytes → List ℕ → Type 0
+Opens o b store table r store′ table′ = OpensAs (openingOf o b (length store) (length table)) store table r store′ table′
 
 -- ---- its parts
 
@@ -141,9 +185,6 @@ abbrev pub payloadSum : Option Bytes → ℕ
 payloadSum none = 0
 payloadSum (some b) = crcOf b
 
-abbrev pub emptyOf : ℕ → ReplayBuffer
-emptyOf capacity = record { capacity = capacity; head = 0; «unpersisted_bytes» = 0; first = 0; chunks = 0 }
-
 -- what a payload is stored into
 pub record Sized (limit capacity store table : ℕ) : Type 0 where
   pub limit-some : 0 < limit
@@ -161,25 +202,6 @@ pub record Stores (limit capacity : ℕ) (payload : Option Bytes) (persisted : �
   pub queue-is : queueOf (lent (storeSize capacity limit) (length table)) r (O.payloadLength payload) store′ table′ ≡ O.openChunks payload persisted
   pub store-beyond : drop (storeSize capacity limit) store′ ≡ drop (storeSize capacity limit) store
   pub table-beyond : drop (length table) table′ ≡ drop (length table) table
-
-abbrev pub freshSession : ℕ → ℕ → Phase → Offset → Checksum → Connector → ReplayBuffer → Offset → PendingRequests → Session
-freshSession limit slots p at sum c b size q = record {
-  limit = limit;
-  slots = slots;
-  phase = p;
-  sent = sent.Nothing;
-  made = 0;
-  «write_offset» = at;
-  «running_crc32c» = sum;
-  held = 0;
-  worker = record { connector = c; «replay_buffer» = b; «pending_requests» = q; «persisted_size» = size; finalized = false; «self_flush_outstanding» = false };
-}
-
--- the record, with no waiter
-pub record Fresh (limit slots : ℕ) (p : Phase) (at : Offset) (sum : Checksum) (c : Connector) (b : ReplayBuffer) (size : Offset) (r : Session) : Type 0 where
-  pub record-is : r ≡ freshSession limit slots p at sum c b size (r .worker .«pending_requests»)
-  pub none-waits : waitersOf (r .worker .«pending_requests») ≡ []
-  pub count-is : r .worker .«pending_requests» .count ≡ 0
 
 -- the session of an accepted opening
 pub record Starts (o : Opening) (b : Beside) (store : Bytes) (table : List ℕ) (s : Session) (store′ : Bytes) (table′ : List ℕ) : Type 0 where

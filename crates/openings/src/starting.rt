@@ -11,7 +11,7 @@ ghost use Rattle.rules.specs.Message as M;
 ghost use Rattle.rules.specs.Opening as O;
 ghost use Rattle.bidi_write.specs.Numbers.{toℕ};
 ghost use Rattle.bidi_write.specs.View.{given, checksumOf, statusOf};
-ghost use Rattle.openings.specs.Opening.{beside, Admitted, Connects, payloadSum, emptyOf, Sized, Stores, Fresh, Starts, Unopened};
+ghost use Rattle.openings.specs.Opening.{beside, Admitted, Connects, emptyOf, freshSession, noSpec, unopened, payloadSum, Sized, Stores, Starts};
 use crate::Opening;
 use crate::asked_capacity;
 use bidi_write::Cause;
@@ -23,8 +23,17 @@ use bidi_write::WriteStatus;
 use connector::Connector;
 use replay_buffer::ReplayBuffer;
 use replay_buffer::ring_size;
+use state::AppendObjectSpec;
 use state::AppendObjectSpecState;
+use state::Bucket;
 use state::Condition;
+use state::MAX_BUCKET;
+use state::MAX_OBJECT;
+use state::MAX_ROUTING_TOKEN;
+use state::MAX_WRITE_HANDLE;
+use state::Object;
+use state::RoutingToken;
+use state::WriteHandle;
 use transport::Phase;
 use transport::Sent;
 use transport::Session;
@@ -250,7 +259,7 @@ fn fresh(
     replay_buffer: ReplayBuffer,
     persisted_size: Offset,
 ) -> Session
-    ensures { λ r. ⌜ Fresh limit slots phase «write_offset» «running_crc32c» connector «replay_buffer» «persisted_size» r ⌝ }
+    ensures { λ r. ⌜ r ≡ freshSession limit slots phase «write_offset» «running_crc32c» connector «replay_buffer» «persisted_size» ⌝ }
 {
     let pending_requests = PendingRequests::new();
     let worker = Worker {
@@ -274,25 +283,44 @@ fn fresh(
     }
 }
 
-// What a refused opening leaves: a session that ended, with the smallest ring and one slot, so that memory of that size is enough for later calls to
-// answer that it ended.
-pub fn unopened() -> Session
-    ensures { λ r. ⌜ Unopened r ⌝ }
+// No name, generation, handle, token or condition.
+fn no_spec() -> AppendObjectSpec
+    ensures { λ r. ⌜ r ≡ noSpec ⌝ }
 {
-    let none = [0u8; 0];
-    let dialled = AppendObjectSpecState::new(
-        false,
-        &none,
-        &none,
-        Generation(0),
-        false,
-        &none,
-        false,
-        &none,
-        Condition::Absent,
-        Condition::Absent,
-    );
-    let spec = dialled.spec;
+    let bucket = Bucket {
+        bytes: [0u8; MAX_BUCKET],
+        length: 0,
+    };
+    let object = Object {
+        bytes: [0u8; MAX_OBJECT],
+        length: 0,
+    };
+    let write_handle = WriteHandle {
+        given: false,
+        bytes: [0u8; MAX_WRITE_HANDLE],
+        length: 0,
+    };
+    let routing_token = RoutingToken {
+        given: false,
+        bytes: [0u8; MAX_ROUTING_TOKEN],
+        length: 0,
+    };
+    AppendObjectSpec {
+        bucket,
+        object,
+        generation: Generation(0),
+        write_handle,
+        routing_token,
+        if_metageneration_match: Condition::Absent,
+        if_metageneration_not_match: Condition::Absent,
+    }
+}
+
+// What a refused opening leaves: a session that ended, with the smallest ring and one slot.
+pub fn unopened() -> Session
+    ensures { λ r. ⌜ r ≡ unopened ⌝ }
+{
+    let spec = no_spec();
     let connector = Connector {
         spec,
         attempt_count: 0,

@@ -6,16 +6,19 @@ use mathlib.Core.List.{List, [], _∷_}
 use Prim.Native.Nat.{ℕ}
 use Rattle.rules.specs.Message.{Bytes}
 use Rattle.rules.specs.Session as R
+use Rattle.rules.specs.Opening.{opened, opens}
 use Rattle.rules.specs.World.{World}
 use Rattle.rules.specs.Demand3.{Holds}
 use Rattle.rules.specs.Beyond.{HoldsBeyond}
 use Rattle.rules.specs.Total as total
+use Rattle.transport.specs.View.{view}
+use Rattle.transport.specs.Valid.{Valid}
 use Rattle.transport.specs.Promise.{Promise, Promised}
 use Rattle.transport.specs.Claim as core
 use Rattle.transport.specs.Claim.{Memory, Turn, left, turned, Called, leftBy}
 use Rattle.transport.specs.declared.Outcome.{Outcome}
 use Rattle.transport.proofs.Claim as program
-use Rattle.openings.specs.Opening.{Accepts}
+use Rattle.openings.proofs.Openings.{accepted-is}
 use Rattle.session.specs.Claim.{Unlent, Ensures, AllDid, Begun, Begins, given, first, Always, AllCalled, StoredBound}
 
 -- a promise at memory that is the same
@@ -65,20 +68,23 @@ all-called : (ts : List Called) (m : Memory) → AllCalled ts m → core.AllCall
 all-called [] m d = tt
 all-called (t ∷ ts) m d = (promised (t .call) m (t .out) (t .outcome) (t .store) (t .table) (t .out′) (d .0), all-called ts (leftBy t) (d .1))
 
-accepts : (b : Begun) → Begins b → Accepts (given b) (b .store) (b .table) (b .opened .session) (b .store′) (b .table′)
-accepts b g = g .promise .accepts (g .accepted)
+valid : (b : Begun) → Begins b → Valid (b .opened .session) (b .store′) (b .table′)
+valid b g = g .promise .valid (g .accepted)
+
+opens-is : (b : Begun) → Begins b → opens (given b) ≡ opened (view (b .opened .session) (b .store′) (b .table′))
+opens-is b g = accepted-is (g .promise) (g .accepted)
 
 pub host-demand3 : Always (λ o object w. Holds w)
 host-demand3 b g object tail v ts d =
-    program.program-demand3 (given b) (first b) (accepts b g .valid) (accepts b g .opens-is) object tail v ts (all-did ts _ _ d)
+    program.program-demand3 (given b) (first b) (valid b g) (opens-is b g) object tail v ts (all-did ts _ _ d)
 
 pub host-beyond-demand3 : Always (λ o object w. HoldsBeyond w)
 host-beyond-demand3 b g object tail v ts d =
-    program.program-beyond-demand3 (given b) (first b) (accepts b g .valid) (accepts b g .opens-is) object tail v ts (all-did ts _ _ d)
+    program.program-beyond-demand3 (given b) (first b) (valid b g) (opens-is b g) object tail v ts (all-did ts _ _ d)
 
 pub host-byte-total : Always (λ o object w. total.Total (total.firstTaken (o .payload) object) w)
 host-byte-total b g object tail v ts d =
-    program.program-byte-total (given b) (first b) (accepts b g .valid) (accepts b g .opens-is) object tail v ts (all-did ts _ _ d)
+    program.program-byte-total (given b) (first b) (valid b g) (opens-is b g) object tail v ts (all-did ts _ _ d)
 
 pub host-stored-bound : StoredBound
-host-stored-bound b g ts d = program.program-stored-bound (given b) (first b) (accepts b g .valid) (accepts b g .opens-is) ts (all-called ts _ d)
+host-stored-bound b g ts d = program.program-stored-bound (given b) (first b) (valid b g) (opens-is b g) ts (all-called ts _ d)

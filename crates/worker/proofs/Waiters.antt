@@ -16,7 +16,7 @@ use lib.Signed.{leZ, ltZ}
 use Rattle.rules.specs.Limits.{maxWaiters}
 use Rattle.rules.specs.Session as S
 use Rattle.rules.specs.Respond.{wants, isSatisfied, satisfied}
-use Rattle.worker.specs.View.{kindOf, requestFor, pendingOf, waitersOf}
+use Rattle.worker.specs.View.{kindOf, requestFor, pendingOf, waitersOf, noWaiters}
 use Rattle.worker.specs.declared.PendingKind.{PendingKind}
 use Rattle.worker.specs.declared.PendingKind.the-variants as kind
 use Rattle.worker.specs.declared.PendingRequest.{PendingRequest}
@@ -45,6 +45,14 @@ element-past (x ∷ l) zero h = absurd (omega arith)
 element-past (x ∷ l) (suc i) h = element-past l i (le-of-suc-le-suc h)
 
 -- ---- the waiting requests
+
+pub none-waits : waitersOf noWaiters ≡ []
+unfolding waitersOf noWaiters
+none-waits = refl
+
+pub none-counted : noWaiters .count ≡ 0
+unfolding noWaiters
+none-counted = refl
 
 -- an array has its length: a caller has `array` from the code's types, or cites `len`
 module _ (q : PendingRequests) (array : length (q .requests) ≡ maxWaiters) (fits : q .count ≤ maxWaiters) where

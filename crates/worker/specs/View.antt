@@ -2,12 +2,14 @@
 use mathlib.Core.Option.{Option}
 use mathlib.Core.List.{List, map}
 use Prim.Native.Nat.{ℕ}
-use lib.ListN.{take}
-use lib.IntN.{ℤ}
+use lib.ListN.{take, replicate}
+use lib.IntN.{ℤ, pos}
+use Rattle.rules.specs.Limits.{maxWaiters}
 use Rattle.rules.specs.Message.{Bytes, Request}
 use Rattle.rules.specs.Session as R
 use Rattle.rules.specs.Upload.{flushRequest, finishRequest}
 use Rattle.bidi_write.specs.View.{checksumOf}
+use Rattle.bidi_write.specs.declared.Checksum.the-variants as checksum
 use Rattle.connector.specs.View.{connectorOf}
 use Rattle.replay_buffer.specs.View.{Lent, queueOf}
 use Rattle.worker.specs.declared.PendingKind.{PendingKind}
@@ -29,6 +31,13 @@ pendingOf p = record { kind = kindOf (p .kind); request = requestFor (p .kind) (
 
 unfoldable pub waitersOf : PendingRequests → List R.PendingRequest
 waitersOf q = map pendingOf (take (q .count) (q .requests))
+
+-- none waits, and the places are all alike
+unfoldable pub noWaiters : PendingRequests
+noWaiters = record {
+  requests = replicate maxWaiters (record { kind = kind.Flush; «write_offset» = record { 0 = pos 0 }; «object_checksums» = checksum.Unknown });
+  count = 0;
+}
 
 unfoldable pub workerOf : Lent → ℕ → Worker → Bytes → List ℕ → R.Worker
 workerOf m end w store table = record {

@@ -14,7 +14,7 @@ ghost use Rattle.rules.specs.Respond as R;
 ghost use Rattle.bidi_write.specs.View.{checksumOf, requestOf};
 ghost use Rattle.connector.specs.View.{connectorOf};
 ghost use Rattle.replay_buffer.specs.View.{Lent};
-ghost use Rattle.worker.specs.View.{pendingOf, waitersOf, workerOf};
+ghost use Rattle.worker.specs.View.{pendingOf, waitersOf, noWaiters, workerOf};
 use bidi_write::Checksum;
 use bidi_write::ChecksummedData;
 use bidi_write::Data;
@@ -136,8 +136,7 @@ impl PendingRequest {
 
 impl PendingRequests {
     pub fn new() -> PendingRequests
-        ensures { λ r. ⌜ waitersOf r ≡ [] ⌝ }
-        ensures { λ r. ⌜ r .count ≡ 0 ⌝ }
+        ensures { λ r. ⌜ r ≡ noWaiters ⌝ }
     {
         let unused = PendingRequest {
             kind: PendingKind::Flush,

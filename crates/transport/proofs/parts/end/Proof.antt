@@ -1,5 +1,6 @@
 -- `transport::parts::end` meets its contract.
 use borrow.Author.Needs.{needs}
+use Rattle.worker.proofs.Waiters.{none-waits, none-counted}
 use Rattle.transport.proofs.Ends.{ends-as}
 use Rattle.transport.proofs.parts.end.Statement.{statement}
 use Rattle.transport.proofs.parts.end.Tie as tie
@@ -17,7 +18,7 @@ returns : tie.Need-returns
 returns c =
     let new = c .before .before .new in
     rw (c .renew .ensures, c .before .set-pending .ensures .1)
-    (ends-as (c .before .before .before .before .before .args .cause) (c .before .before .before .before .before .args .completed) (c .before .before .before .before .before .args .s) (new .result) (new .ensures .0) (new .ensures .1))
+    (ends-as (c .before .before .before .before .before .args .cause) (c .before .before .before .before .before .args .completed) (c .before .before .before .before .before .args .s) (new .result) (rw (new .ensures) none-waits) (rw (new .ensures) none-counted))
 
 pub end-spec : {M : Type 1} → statement M
 end-spec = tie.close (tie.spec new-requires set-pending-requires renew-requires returns)
