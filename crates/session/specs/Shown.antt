@@ -1,4 +1,4 @@
--- What a host sees of a session that an opening and calls left is the rules' session.
+-- What a host sees of a session: the record's, and the rules' where an opening and calls left it.
 use mathlib.Core.Path.{_≡_}
 use mathlib.Core.List.{List}
 use Prim.Native.Nat.{ℕ}
@@ -20,10 +20,24 @@ pub record Shows (s : R.Session) (v : View) : Type 0 where
   pub capacity : v .capacity ≡ s .worker .replayBuffer .capacity
   pub waiters : v .waiters ≡ length (R.waiters s)
 
--- of a record that no call left nothing is said
-abbrev pub Shown : Session → View → Type 0
-Shown s v = (store : Bytes) (table : List ℕ) → Valid s store table → Shows (view s store table) v
+-- what a record holds
+abbrev pub viewed : Session → View
+viewed s = record {
+  phase = s .phase;
+  «persisted_size» = s .worker .«persisted_size»;
+  stored = s .worker .«replay_buffer» .«unpersisted_bytes»;
+  held = s .held;
+  capacity = s .worker .«replay_buffer» .capacity;
+  waiters = s .worker .«pending_requests» .count;
+}
 
--- for any record whatever: the spec that a reconnect dials with
-abbrev pub Dials : Session → AppendObjectSpec → Type 0
-Dials s spec = (store : Bytes) (table : List ℕ) → specOf spec ≡ view s store table .worker .connector .spec
+pub record Shown (s : Session) (v : View) : Type 0 where
+  -- for any record whatever
+  pub view-is : v ≡ viewed s
+  -- the rules' session, of a record that an opening and calls left
+  pub shows : (store : Bytes) (table : List ℕ) → Valid s store table → Shows (view s store table) v
+
+-- for any record whatever: the spec that a reconnect dials with is the record's, and the rules'
+pub record Dials (s : Session) (spec : AppendObjectSpec) : Type 0 where
+  pub spec-is : spec ≡ s .worker .connector .spec
+  pub dials : (store : Bytes) (table : List ℕ) → specOf spec ≡ view s store table .worker .connector .spec
