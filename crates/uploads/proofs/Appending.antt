@@ -35,7 +35,9 @@ use Rattle.bidi_write.specs.declared.Refusal.{Refusal}
 use Rattle.bidi_write.specs.declared.Check.{Check}
 use Rattle.bidi_write.specs.declared.Check.the-variants as check
 use Rattle.uploads.specs.declared.cut.Sending.{Sending}
+use Rattle.rules.proofs.Tests.{clash}
 use Rattle.bidi_write.proofs.Rows as Rows
+use Rattle.transport.proofs.First.{some-offered, first-goes}
 use Rattle.transport.proofs.Refused as Refused
 use Rattle.transport.proofs.Numbers.{full-is, slot-is}
 use Rattle.uploads.proofs.Uploads.{valid-store, cuttable, past-is}
@@ -141,10 +143,12 @@ module _ (s : Session) (store : Bytes) (table : List ℕ) (out : Bytes) (g : Gua
       (fills-is ∙ sym e) (sym (full-is s store table v)) (sym (slot-is s store table v)) (past-end-is v)
 
   -- refused
-  pub append-refuses : (cuts : Bool) → cuts ≡ leb (s .limit) (s .held + n) → 0 < length d → (x : Refusal) → appendTests s n (length out) cuts ≡ check.Refuse x
+  pub append-refuses : R.isEnded (phaseOf (s .phase)) ≡ false → (cuts : Bool) → cuts ≡ leb (s .limit) (s .held + n) → 0 < length d
+      → (x : Refusal) → appendTests s n (length out) cuts ≡ check.Refuse x
       → Promise (R.append d (length out)) s store table out (record { session = s; answer = answer.Refused x }) store table out
-  append-refuses cuts e h x t =
+  append-refuses on cuts e h x t =
       Refused.refusal (R.append d (length out)) s store table out x
+      (first-goes (R.append d (length out)) s store table (some-offered d h) on g)
       (λ v. step-is d (length out) rule h ∙ rule-refuses d (length out) rule x (tests-are cuts e v ∙ t))
 
   rule-holds : Taking s d (length out) n false → Valid s store table
@@ -187,10 +191,14 @@ module _ (s : Session) (store : Bytes) (table : List ℕ) (out : Bytes) (g : Gua
     pub append-holds : length store′ ≡ length store → Taking s d (length out) n false
         → Promise (R.append d (length out)) s store table out (record { session = holding (s .held + n) s; answer = answer.Took n maybe.Absent }) store′ table out
     append-holds same t = record {
+      first = first-goes (R.append d (length out)) s store table (some-offered d (t .some-given)) (Rows.first-false _ _ _ (t .goes)) g;
       refuses = λ y f. absurd (no-refusal n maybe.Absent y f);
+      takes = omega (arith, taken);
       store-beyond = x .beyond;
       table-beyond = refl;
       out-beyond = refl;
+      sent-is = refl;
+      sent-in = omega arith;
       steps = λ v. ap (R.answers (R.took n none)) (view-holds ∙ ap₂ U.holds chunk-is view-kept) ∙ sym (rule-holds t v);
       stays = λ v. valid-holds s store′ table n (leb-false (s .limit) (s .held + n) (sym (t .cuts-is))) (valid-store s store store′ table same v);
     }
@@ -200,10 +208,14 @@ module _ (s : Session) (store : Bytes) (table : List ℕ) (out : Bytes) (g : Gua
         → Cuts s (s .held + n) store′ table out r table′ out′
         → Promise (R.append d (length out)) s store table out (record { session = r .session; answer = answer.Took n (maybe.Present (r .request)) }) store′ table′ out′
     append-cuts same t r table′ out′ k = record {
+      first = first-goes (R.append d (length out)) s store table (some-offered d (t .some-given)) (Rows.first-false _ _ _ (t .goes)) g;
       refuses = λ y f. absurd (no-refusal n (maybe.Present (r .request)) y f);
+      takes = omega (arith, taken);
       store-beyond = x .beyond;
       table-beyond = k .table-beyond;
       out-beyond = k .out-beyond;
+      sent-is = k .sent-is;
+      sent-in = k .sent-in;
       steps = λ v.
           let w = valid-store s store store′ table same v in
           ap₂ (λ (q : Request) (z : R.Session). R.answers (R.took n (some q)) z)
@@ -236,10 +248,14 @@ pub append-nothing : (d : Bytes) (s : Session) (store : Bytes) (table : List ℕ
     → Promise (R.append d (length out)) s store table out (record { session = s; answer = answer.Took 0 maybe.Absent }) store table out
 unfolding step
 append-nothing [] s store table out e = record {
+  first = record { empty = λ _. (refl, refl, refl, refl); over = λ f. clash refl f; unfit = λ f. clash refl f };
   refuses = λ y f. absurd (no-refusal 0 maybe.Absent y f);
+  takes = omega arith;
   store-beyond = refl;
   table-beyond = refl;
   out-beyond = refl;
+  sent-is = refl;
+  sent-in = omega arith;
   steps = λ v. refl;
   stays = λ v. v;
 }

@@ -2,7 +2,7 @@
 -- Assumes nothing.
 use mathlib.Core.Path.{_≡_, refl, sym, ap, ap₂, _∙_, subst}
 use mathlib.Core.Bool.{Bool, true, false, not, cond, _||_}
-use mathlib.Core.Option.{some}
+use mathlib.Core.Option.{none, some}
 use mathlib.Core.List.{List, [], _∷_, _++_}
 use Prim.Native.Nat.{ℕ, suc, _+_, _-_, _<_, _≤_, _^_}
 use native.Mathlib.Numerals.{add-one}
@@ -14,29 +14,32 @@ use Rattle.rules.specs.Limits.{maxWaiters}
 use Rattle.rules.specs.Message.{Bytes, Request}
 use Rattle.rules.specs.Session as R
 use Rattle.rules.specs.Upload as U
-use Rattle.rules.specs.Notes.{dataIn}
+use Rattle.rules.specs.Notes.{contentOf, dataIn}
 use Rattle.rules.specs.Step.{step}
 use Rattle.coalescing_buffer.proofs.Laws.{length-held}
-use Rattle.bidi_write.specs.View.{checksumOf}
+use Rattle.bidi_write.specs.View.{checksumOf, lengthOf, requestOf}
 use Rattle.worker.specs.View.{kindOf, pendingOf, waitersOf, workerOf}
 use Rattle.worker.specs.declared.PendingKind.{PendingKind}
 use Rattle.worker.specs.declared.PendingKind.the-variants as kind
 use Rattle.worker.specs.declared.PendingRequests.{PendingRequests}
+use Rattle.worker.proofs.Lengths.{no-length}
 use Rattle.worker.proofs.Waiters.{isNil-is}
 use Rattle.bidi_write.specs.Refusal.{numberOf}
 use Rattle.admission.specs.Rows.{uploadCheck}
 use Rattle.transport.specs.View.{phaseOf, lentOf, endOf, heldOf, view}
 use Rattle.transport.specs.Valid.{GuardedAt, Valid}
-use Rattle.transport.specs.Promise.{Promise}
+use Rattle.transport.specs.Promise.{askedBy, First, Promise}
 use Rattle.uploads.specs.Upload.{callOf, CutRoom, Cuts, askTests, Asking, waiterFor, awaiting, Awaits}
 use Rattle.transport.specs.declared.Session.{Session}
 use Rattle.transport.specs.declared.Answer.the-variants as answer
+use Rattle.transport.specs.declared.Outcome.{Outcome}
 use Rattle.bidi_write.specs.declared.Refusal.{Refusal}
 use Rattle.bidi_write.specs.declared.Check.{Check}
 use Rattle.bidi_write.specs.declared.Check.the-variants as check
 use Rattle.uploads.specs.declared.cut.Sending.{Sending}
 use Rattle.rules.proofs.Tests.{or-no-left, or-no-right}
 use Rattle.bidi_write.proofs.Rows as Rows
+use Rattle.transport.proofs.First.{first-goes}
 use Rattle.transport.proofs.Refused as Refused
 use Rattle.transport.proofs.Views.{no-cursor, live-no-replay}
 use Rattle.transport.proofs.Numbers.{full-is, slot-is, waiters-are}
@@ -74,6 +77,10 @@ same-tests : (phase : ℕ) (finalized short : Bool) (cuts cuts′ full full′ s
     → uploadCheck phase finalized true cuts short full (cond cuts slot waiter) past ≡ uploadCheck phase finalized true cuts′ short full′ (cond cuts′ slot′ waiter′) past′
 same-tests phase finalized short cuts cuts′ full full′ slot slot′ waiter waiter′ past past′ e f g h i = rw (e, f, g, h, i)
 
+pub never-empty : (k : PendingKind) (out : ℕ) → askedBy (callOf k out) .empty ≡ false
+never-empty kind.Flush out = refl
+never-empty kind.Finalize out = refl
+
 -- ---- a waiter
 
 pub record Waitable (s : Session) : Type 0 where
@@ -94,9 +101,9 @@ unfolding view
 waiter-is kind.Flush s store table = refl
 waiter-is kind.Finalize s store table = refl
 
-no-data : (k : PendingKind) (s : Session) → dataIn (some (pendingOf (waiterFor k s) .request)) ≡ []
-no-data kind.Flush s = refl
-no-data kind.Finalize s = refl
+absent : (k : PendingKind) (s : Session) → pendingOf (waiterFor k s) .request .checksummedData ≡ none
+absent kind.Flush s = refl
+absent kind.Finalize s = refl
 
 -- the session after a waiter is made, but for two of its parts
 abbrev after-wait : PendingKind → Session → Bytes → List ℕ → ℕ → List R.PendingRequest → R.Session
@@ -118,6 +125,10 @@ module _ (k : PendingKind) (s : Session) (store : Bytes) (table : List ℕ) (out
   abbrev rule : R.Session
   rule = view s store table
 
+  first : R.isEnded (phaseOf (s .phase)) ≡ false → {r : Outcome} {table′ : List ℕ} {out′ : Bytes}
+      → First (callOf k (length out)) s store table out r store table′ out′
+  first on = first-goes (callOf k (length out)) s store table (never-empty k (length out)) on g
+
   length-held-is : length (heldOf s store) ≡ s .held
   length-held-is =
       length-held (s .limit) (lentOf s .size) (s .worker .«replay_buffer» .head) (s .worker .«replay_buffer» .«unpersisted_bytes») (s .held) store (g .store-lent)
@@ -135,10 +146,10 @@ module _ (k : PendingKind) (s : Session) (store : Bytes) (table : List ℕ) (out
       (ap (λ (n : ℕ). leb maxWaiters n || leb (2 ^ 64 - 1) (s .made)) (v .waiting-is))
       (sym (past-is s store table v (heldOf s store)) ∙ ap (λ (n : ℕ). ltb (2 ^ 63 - 1) (endOf s + n)) length-held-is)
 
-  pub ask-refuses : (cuts : Bool) → cuts ≡ not (eqb (s .held) 0) → (x : Refusal) → askTests s (length out) cuts ≡ check.Refuse x
+  pub ask-refuses : R.isEnded (phaseOf (s .phase)) ≡ false → (cuts : Bool) → cuts ≡ not (eqb (s .held) 0) → (x : Refusal) → askTests s (length out) cuts ≡ check.Refuse x
       → Promise (callOf k (length out)) s store table out (record { session = s; answer = answer.Refused x }) store table out
-  ask-refuses cuts e x t =
-      Refused.refusal (callOf k (length out)) s store table out x
+  ask-refuses on cuts e x t =
+      Refused.refusal (callOf k (length out)) s store table out x (first on)
       (λ v. step-is k (length out) rule ∙ rule-refuses (kindOf k) (length out) rule x (tests-are cuts e v ∙ t))
 
   -- held bytes are cut
@@ -153,10 +164,14 @@ module _ (k : PendingKind) (s : Session) (store : Bytes) (table : List ℕ) (out
   pub ask-cuts : Asking s (length out) true → (r : Sending) (table′ : List ℕ) (out′ : Bytes) → Cuts s (s .held) store table out r table′ out′
       → Promise (callOf k (length out)) s store table out (record { session = r .session; answer = answer.Sends (r .request) }) store table′ out′
   ask-cuts t r table′ out′ c = record {
+    first = first (Rows.first-false _ _ _ (t .goes));
     refuses = λ y f. let z : _≡_ {A = ℕ} 0 1 = cc in absurd (omega arith);
+    takes = omega arith;
     store-beyond = refl;
     table-beyond = c .table-beyond;
     out-beyond = c .out-beyond;
+    sent-is = c .sent-is;
+    sent-in = c .sent-in;
     steps = λ v. ap₂ (λ (q : Request) (z : R.Session). R.answers (R.sends q) z) (c .request-is v) (c .session-is v) ∙ sym (rule-cuts t v);
     stays = c .stays;
   }
@@ -192,11 +207,17 @@ module _ (k : PendingKind) (s : Session) (store : Bytes) (table : List ℕ) (out
   ask-waits t r w =
       let q : PendingRequests = r .session .worker .«pending_requests» in
       let a = waitable s (length out) t in
+      let none-sent : dataIn (some (requestOf (r .request) out)) ≡ [] = ap (λ (x : Request). dataIn (some x)) (w .request-is out) ∙ ap contentOf (absent k s) in
+      let empty : lengthOf (r .request .«data») ≡ 0 = no-length (r .request) out _ (w .request-is out) (absent k s) in
       record {
+        first = first (Rows.first-false _ _ _ (t .goes));
         refuses = λ y f. let z : _≡_ {A = ℕ} 0 1 = cc in absurd (omega arith);
+        takes = omega arith;
         store-beyond = refl;
         table-beyond = refl;
-        out-beyond = rw (ap (λ (x : Request). dataIn (some x)) (w .request-is out) ∙ no-data k s);
+        out-beyond = rw (none-sent, empty);
+        sent-is = rw (none-sent, empty);
+        sent-in = omega (arith, empty);
         steps = λ v.
             ap (λ (x : Request). R.answers (R.waits x (s .made + 1)) (view (r .session) store table)) (w .request-is out ∙ ap (λ (p : R.PendingRequest). p .request) (waiter-is k s store table))
             ∙ ap₂ (λ (n : ℕ) (z : R.Session). R.answers (R.waits (U.requestFor (kindOf k) rule) n) z) (add-one (s .made))

@@ -18,7 +18,7 @@ use Rattle.rules.specs.Upload as U
 use Rattle.rules.specs.Notes.{dataIn}
 use Rattle.ring.specs.Ring.{part}
 use Rattle.ring.proofs.Laws.{length-part}
-use Rattle.bidi_write.specs.View.{checksumOf, requestOf}
+use Rattle.bidi_write.specs.View.{checksumOf, lengthOf, requestOf}
 use Rattle.bidi_write.specs.declared.Checksum.{Checksum}
 use Rattle.bidi_write.specs.declared.Checksum.the-variants as checksum
 use Rattle.connector.specs.View.{connectorOf}
@@ -27,6 +27,7 @@ use Rattle.replay_buffer.specs.Push.{Pushes, pushed}
 use Rattle.replay_buffer.specs.declared.ReplayBuffer.{ReplayBuffer}
 use Rattle.replay_buffer.proofs.Laws.{stored-bytes}
 use Rattle.worker.specs.View.{waitersOf, workerOf}
+use Rattle.worker.proofs.Lengths.{carried-length}
 use Rattle.transport.specs.View.{phaseOf, lentOf, endOf, view}
 use Rattle.transport.specs.Valid.{GuardedAt, Valid}
 use Rattle.uploads.specs.Upload.{chunkAt, CutRoom, CutBytes, joinedTo, flushesWith, cutSession, CutSession, Cuts}
@@ -151,13 +152,18 @@ module _ (s : Session) (n : ℕ) (store : Bytes) (table : List ℕ) (out : Bytes
     request-is : requestOf (r .request) out′ ≡ U.chunkRequest (record { writeOffset = s .«write_offset» .0; bytes = chunkAt s n store; crc32c = sum }) (flushesWith (pushed b n) s)
     request-is = c .request-is out′ ∙ rw taken-out
 
-    sent-is : dataIn (some (requestOf (r .request) out′)) ≡ chunkAt s n store
-    sent-is = ap (λ (q : Request). dataIn (some q)) request-is
+    data-is : dataIn (some (requestOf (r .request) out′)) ≡ chunkAt s n store
+    data-is = ap (λ (q : Request). dataIn (some q)) request-is
+
+    length-is : lengthOf (r .request .«data») ≡ n
+    length-is = carried-length (r .request) (s .«write_offset» .0) n sum (flushesWith (pushed b n) s) (c .request-is)
 
     cuts-pushed : Cuts s n store table out r table′ out′
     cuts-pushed = record {
       table-beyond = p .beyond;
-      out-beyond = rw (sent-is, length-chunk) out-is;
+      out-beyond = rw (data-is, length-is) out-is;
+      sent-is = rw (data-is, length-is) length-chunk;
+      sent-in = omega (arith, length-is, h .cuttable);
       request-is = λ v. request-cut v _ request-is;
       session-is = λ v. rw (c .session-is) (view-cut v);
       stays = λ v. rw (c .session-is) (sound-cut v);

@@ -1,9 +1,9 @@
--- What append, flush and finalise share: a call that its guard refuses, what passed tests say, and where a chunk may end.
+-- What append, flush and finalise share: what passed tests say, and where a chunk may end.
 -- Assumes nothing.
 use mathlib.Core.Path.{_≡_, sym, ap, _∙_}
 use mathlib.Core.Bool.{Bool, true, false, not, _&&_}
 use mathlib.Core.List.{List}
-use Prim.Native.Nat.{ℕ, _+_, _-_, _<_, _≤_, _^_}
+use Prim.Native.Nat.{ℕ, _+_, _-_, _≤_, _^_}
 use native.Mathlib.Omega.{arith}
 use borrow.Author.Tests.{ltb-false, leb-false, not-false}
 use lib.Dec.{ltb, leb, eqb}
@@ -13,22 +13,13 @@ use lib.Signed.{ltZ}
 use Rattle.rules.specs.Message.{Bytes}
 use Rattle.rules.specs.Session as R
 use Rattle.transport.specs.View.{phaseOf, endOf, view}
-use Rattle.transport.specs.Valid.{GuardedAt, Valid}
-use Rattle.transport.specs.Promise.{Promise}
+use Rattle.transport.specs.Valid.{Valid}
 use Rattle.admission.specs.Rows.{uploadCheck, uploadTests}
 use Rattle.uploads.specs.Upload.{Cuttable}
 use Rattle.transport.specs.declared.Session.{Session}
-use Rattle.bidi_write.specs.declared.Refusal.the-variants as reason
-use Rattle.transport.specs.declared.Answer.the-variants as answer
 use Rattle.bidi_write.specs.declared.Check.the-variants as check
 use Rattle.bidi_write.proofs.Rows.{first-false, later}
-use Rattle.transport.proofs.Refused.{refusal}
 use Rattle.transport.proofs.Numbers.{offset-is}
-
--- a record or memory that no call left
-pub unguarded : (c : R.Call) (s : Session) (store : Bytes) (table : List ℕ) (out : Bytes) → (GuardedAt s (length store) (length table) → ⊥)
-    → Promise c s store table out (record { session = s; answer = answer.Refused reason.ShortMemory }) store table out
-unguarded c s store table out bad = refusal c s store table out reason.ShortMemory (λ v. absurd (bad (v .guarded)))
 
 -- the same record with other bytes in a store of the same length
 pub valid-store : (s : Session) (store store′ : Bytes) (table : List ℕ) → length store′ ≡ length store → Valid s store table → Valid s store′ table

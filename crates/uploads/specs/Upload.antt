@@ -1,12 +1,12 @@
 -- Append, flush and finalise: what their private functions promise each other. What a caller is promised is `Promise` alone.
 use mathlib.Core.Path.{_≡_}
-use mathlib.Core.Bool.{Bool, true, false, not, cond, _&&_, _||_}
+use mathlib.Core.Bool.{Bool, true, not, cond, _&&_, _||_}
 use mathlib.Core.Option.{some}
 use mathlib.Core.List.{List, [], _∷_, _++_}
 use Prim.Native.Nat.{ℕ, _+_, _*_, _-_, _<_, _≤_, _^_, min}
 use lib.ListN.{length, take, drop}
-use lib.Dec.{leb, ltb, eqb}
-use lib.IntN.{ℤ, pos}
+use lib.Dec.{leb, eqb}
+use lib.IntN.{pos}
 use Rattle.rules.specs.Limits.{maxWaiters}
 use Rattle.crc32c.specs.Reg.{crcOf, joined}
 use Rattle.rules.specs.Message.{Bytes}
@@ -14,8 +14,7 @@ use Rattle.rules.specs.Session as R
 use Rattle.rules.specs.Upload as U
 use Rattle.rules.specs.Notes.{dataIn}
 use Rattle.ring.specs.Ring.{part}
-use Rattle.bidi_write.specs.Numbers.{toℕ}
-use Rattle.bidi_write.specs.View.{requestOf}
+use Rattle.bidi_write.specs.View.{lengthOf, requestOf}
 use Rattle.bidi_write.specs.declared.Checksum.{Checksum}
 use Rattle.bidi_write.specs.declared.Checksum.the-variants as checksum
 use Rattle.replay_buffer.specs.Push.{Pushes}
@@ -106,7 +105,9 @@ pub record CutSession (s : Session) (b : ReplayBuffer) (sum n : ℕ) (r : Sendin
 pub record Cuts (s : Session) (n : ℕ) (store : Bytes) (table : List ℕ) (out : Bytes) (r : Sending) (table′ : List ℕ) (out′ : Bytes) : Type 0 where
   -- for any memory
   pub table-beyond : drop (s .slots) table′ ≡ drop (s .slots) table
-  pub out-beyond : out′ ≡ dataIn (some (requestOf (r .request) out′)) ++ drop (length (dataIn (some (requestOf (r .request) out′)))) out
+  pub out-beyond : out′ ≡ dataIn (some (requestOf (r .request) out′)) ++ drop (lengthOf (r .request .«data»)) out
+  pub sent-is : length (dataIn (some (requestOf (r .request) out′))) ≡ lengthOf (r .request .«data»)
+  pub sent-in : lengthOf (r .request .«data») ≤ length out
   -- for what calls leave
   pub request-is : Valid s store table → requestOf (r .request) out′ ≡ U.cutRequest (chunkAt s n store) (view s store table)
   pub session-is : Valid s store table → view (r .session) store table′ ≡ U.cuts (chunkAt s n store) (view s store table)

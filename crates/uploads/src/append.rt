@@ -1,22 +1,23 @@
 // Ported from google-cloud-storage 1.21.0, src/storage/bidi_write/transport.rs (Apache-2.0); changed: no tasks, channels or heap.
 // Append: "takes the smaller of its length and C − held. Held bytes reaching C are cut as one chunk."
 ghost use mathlib.Core.Path.{_≡_};
+ghost use mathlib.Core.Bool.{false};
 ghost use Prim.Native.Nat.{_<_};
 ghost use lib.ListN.{length};
 ghost use Rattle.rules.specs.Session as R;
+ghost use Rattle.transport.specs.View.{phaseOf};
 ghost use Rattle.transport.specs.Valid.{GuardedAt};
 ghost use Rattle.transport.specs.Promise.{Promise};
 ghost use Rattle.uploads.specs.Upload.{holding, Taking};
 use crate::cut::cut;
 use bidi_write::Check;
-use bidi_write::Refusal;
 use bidi_write::both;
 use transport::Answer;
 use transport::MaybeRequest;
 use transport::Outcome;
 use transport::Sent;
 use transport::Session;
-use transport::guard::guard;
+use transport::guard::enter;
 use transport::phases::phase_number;
 
 pub fn append(
@@ -35,13 +36,14 @@ pub fn append(
             answer: Answer::Took(0, MaybeRequest::Absent),
         };
     }
-    if !guard(s, store.len(), table.len()) {
-        return Outcome {
+    let way = enter(s, store.len(), table.len());
+    match way {
+        Check::Refuse(x) => Outcome {
             session: s,
-            answer: Answer::Refused(Refusal::ShortMemory),
-        };
+            answer: Answer::Refused(x),
+        },
+        Check::Go => append_guarded(s, store, table, out, data),
     }
-    append_guarded(s, store, table, out, data)
 }
 
 // An append of at least a byte.
@@ -52,6 +54,7 @@ fn append_guarded(
     out: &mut [u8],
     data: &[u8],
 ) -> Outcome
+    requires { ⌜ R.isEnded (phaseOf (s .phase)) ≡ false ⌝ }
     requires { ⌜ GuardedAt s (length (now store)) (length (now table)) ⌝ }
     requires { ⌜ 0 < length (now «data») ⌝ }
     ensures { λ r. ⌜ Promise (R.append (now («data» .entry)) (length (now (out .entry)))) s (now (store .entry)) (now (table .entry)) (now (out .entry)) r (now (store .exit)) (now (table .exit)) (now (out .exit)) ⌝ }

@@ -1,12 +1,13 @@
 // Ported from google-cloud-storage 1.21.0, src/storage/bidi_write/transport.rs and worker.rs (Apache-2.0); changed: no tasks, channels or heap.
 // Flush and finalise: "with held bytes cut them as one chunk and make no waiter; the call is repeated. With none held they send their request and make a waiter."
 ghost use mathlib.Core.Path.{_≡_};
-ghost use mathlib.Core.Bool.{cond, _||_};
+ghost use mathlib.Core.Bool.{false, cond, _||_};
 ghost use Prim.Native.Nat.{_<_, _-_, _^_};
 ghost use lib.Dec.{leb};
 ghost use lib.ListN.{length};
 ghost use Rattle.rules.specs.Limits.{maxWaiters};
 ghost use Rattle.rules.specs.Session as R;
+ghost use Rattle.transport.specs.View.{phaseOf};
 ghost use Rattle.transport.specs.Valid.{GuardedAt};
 ghost use Rattle.transport.specs.Promise.{Promise};
 ghost use Rattle.rules.specs.Upload.{isFinalizing};
@@ -15,12 +16,11 @@ ghost use Rattle.uploads.specs.Upload.{callOf, Asking, Awaits};
 use crate::cut::Sending;
 use crate::cut::cut;
 use bidi_write::Check;
-use bidi_write::Refusal;
 use transport::Answer;
 use transport::Outcome;
 use transport::Sent;
 use transport::Session;
-use transport::guard::guard;
+use transport::guard::enter;
 use transport::phases::phase_number;
 use worker::MAX_PENDING;
 use worker::PendingKind;
@@ -41,13 +41,14 @@ pub fn finalise(s: Session, store: &[u8], table: &mut [u64], out: &mut [u8]) -> 
 fn ask(kind: PendingKind, s: Session, store: &[u8], table: &mut [u64], out: &mut [u8]) -> Outcome
     ensures { λ r. ⌜ Promise (callOf kind (length (now (out .entry)))) s (now (store .entry)) (now (table .entry)) (now (out .entry)) r (now (store .entry)) (now (table .exit)) (now (out .exit)) ⌝ }
 {
-    if !guard(s, store.len(), table.len()) {
-        return Outcome {
+    let way = enter(s, store.len(), table.len());
+    match way {
+        Check::Refuse(x) => Outcome {
             session: s,
-            answer: Answer::Refused(Refusal::ShortMemory),
-        };
+            answer: Answer::Refused(x),
+        },
+        Check::Go => ask_guarded(kind, s, store, table, out),
     }
-    ask_guarded(kind, s, store, table, out)
 }
 
 fn ask_guarded(
@@ -57,6 +58,7 @@ fn ask_guarded(
     table: &mut [u64],
     out: &mut [u8],
 ) -> Outcome
+    requires { ⌜ R.isEnded (phaseOf (s .phase)) ≡ false ⌝ }
     requires { ⌜ GuardedAt s (length (now store)) (length (now table)) ⌝ }
     ensures { λ r. ⌜ Promise (callOf kind (length (now (out .entry)))) s (now (store .entry)) (now (table .entry)) (now (out .entry)) r (now (store .entry)) (now (table .exit)) (now (out .exit)) ⌝ }
 {

@@ -1,10 +1,11 @@
--- `uploads::append::append` meets its contract: an append of nothing, one that the guard refuses, and any other.
+-- `uploads::append::append` meets its contract: an append of nothing, one that `enter` refuses, and any other.
+use mathlib.Core.Path.{subst}
 use native.Mathlib.Omega.{arith}
 use borrow.Author.Needs.{needs}
-use borrow.Author.Tests.{not-true, not-false}
 use lib.ListN.{length}
 use Rattle.rules.specs.Session as R
-use Rattle.uploads.proofs.Uploads.{unguarded}
+use Rattle.transport.specs.Valid.{Enters}
+use Rattle.transport.proofs.First.{some-offered, turned-away}
 use Rattle.uploads.proofs.Appending.{append-nothing}
 use Rattle.uploads.proofs.append.append.Statement.{statement}
 use Rattle.uploads.proofs.append.append.Tie as tie
@@ -14,18 +15,28 @@ returns c =
     let a = c .before .before .before .before .before .args in
     append-nothing (a .«data» .now) (a .s) (a .store .now) (a .table .now) (a .out .now) (c .if1 .taken)
 
-guard-requires : tie.Need-guard-requires
-guard-requires c κs = search needs
+enter-requires : tie.Need-enter-requires
+enter-requires c κs = search needs
 
-returns-2 : tie.Need-returns-2
-returns-2 c =
-    let a = c .before .before .before .before .before .before .before .args in
-    unguarded (R.append (a .«data» .now) (length (a .out .now))) (a .s) (a .store .now) (a .table .now) (a .out .now)
-    (c .before .guard .ensures .no (not-true _ (c .if2 .taken)))
+enum-known-way : tie.Need-enum-known-way
+enum-known-way c = search needs
+
+enum-told : tie.Need-enum-told
+enum-told c = search needs
 
 append-guarded-requires : tie.Need-append-guarded-requires
 append-guarded-requires c κs =
-    (c .before .before .before .before .guard .ensures .yes (not-false _ (c .before .before .before .if2 .left)), omega (arith, c .before .before .before .before .before .if1 .left))
+    let entered = c .before .before .before .before .before in
+    let goes = entered .enter .ensures .goes (cc) in
+    (goes .0, (goes .1, omega (arith, entered .before .if1 .left)))
+
+returns-2 : tie.Need-returns-2
+returns-2 c =
+    let entered = c .before .before .before in
+    let a = entered .before .before .before .before .before .before .args in
+    turned-away (R.append (a .«data» .now) (length (a .out .now))) (a .s) (a .store .now) (a .table .now)
+    (some-offered (a .«data» .now) (omega (arith, entered .before .if1 .left))) (a .out .now) _
+    (subst (Enters (a .s) _ _) (c .before .way .given .1) (entered .enter .ensures))
 
 same-length : tie.Need-same-length
 same-length c = search needs
@@ -44,9 +55,11 @@ append-spec =
     tie.close
     (tie.spec
     returns
-    guard-requires
-    returns-2
+    enter-requires
+    enum-known-way
+    enum-told
     append-guarded-requires
+    returns-2
     same-length
     same-length-2
     same-length-3

@@ -41,9 +41,9 @@ enum-told c = search needs
 take-requires : tie.Need-take-requires
 take-requires c κs =
     let start = c .before .before .before .before .before .before .before .before .before .before .before .before .before .before .before .before .before .before in (
-      start .pre .0,
+      start .pre .1 .0,
       record {
-        some-given = start .pre .1;
+        some-given = start .pre .1 .1;
         taken = c .before .before .before .before .before .before .before .before .before .before .room .ensures;
         cuts-is = c .before .before .before .before .before .before .before .before .before .fills .ensures;
         goes = tested-as (c .before .before .before .before .before) check.Go (cc);
@@ -54,8 +54,8 @@ returns : tie.Need-returns
 returns c =
     let start = c .before .before .before .before .before .before .before .before .before .before .before .before .before .before .before .before in
     let a = start .args in
-    append-refuses (a .s) (a .store .now) (a .table .now) (a .out .now) (start .pre .0) (a .«data» .now) (c .before .before .before .before .before .before .before .before .room .result) (c .before .before .before .before .before .before .before .before .room .ensures) (c .before .before .before .before .before .before .before .fills .result)
-    (c .before .before .before .before .before .before .before .fills .ensures) (start .pre .1) _ (tested-as (c .before .before .before) (check.Refuse _) (c .before .way .given .1))
+    append-refuses (a .s) (a .store .now) (a .table .now) (a .out .now) (start .pre .1 .0) (a .«data» .now) (c .before .before .before .before .before .before .before .before .room .result) (c .before .before .before .before .before .before .before .before .room .ensures) (start .pre .0) (c .before .before .before .before .before .before .before .fills .result)
+    (c .before .before .before .before .before .before .before .fills .ensures) (start .pre .1 .1) _ (tested-as (c .before .before .before) (check.Refuse _) (c .before .way .given .1))
 
 same-length : tie.Need-same-length
 same-length c = search needs

@@ -1,23 +1,32 @@
--- `uploads::flush::ask` meets its contract: a call that the guard refuses, and any other.
+-- `uploads::flush::ask` meets its contract: a call that `enter` refuses, and any other.
+use mathlib.Core.Path.{subst}
 use borrow.Author.Needs.{needs}
-use borrow.Author.Tests.{not-true, not-false}
 use lib.ListN.{length}
+use Rattle.transport.specs.Valid.{Enters}
+use Rattle.transport.proofs.First.{turned-away}
 use Rattle.uploads.specs.Upload.{callOf}
-use Rattle.uploads.proofs.Uploads.{unguarded}
+use Rattle.uploads.proofs.Asking.{never-empty}
 use Rattle.uploads.proofs.flush.ask.Statement.{statement}
 use Rattle.uploads.proofs.flush.ask.Tie as tie
 
-guard-requires : tie.Need-guard-requires
-guard-requires c κs = search needs
+enter-requires : tie.Need-enter-requires
+enter-requires c κs = search needs
+
+enum-known-way : tie.Need-enum-known-way
+enum-known-way c = search needs
+
+enum-told : tie.Need-enum-told
+enum-told c = search needs
+
+ask-guarded-requires : tie.Need-ask-guarded-requires
+ask-guarded-requires c κs = c .before .before .before .before .enter .ensures .goes (cc)
 
 returns : tie.Need-returns
 returns c =
-    let a = c .before .before .before .before .before .args in
-    unguarded (callOf (a .kind) (length (a .out .now))) (a .s) (a .store .now) (a .table .now) (a .out .now)
-    (c .before .guard .ensures .no (not-true _ (c .if1 .taken)))
-
-ask-guarded-requires : tie.Need-ask-guarded-requires
-ask-guarded-requires c κs = c .before .before .before .guard .ensures .yes (not-false _ (c .before .before .if1 .left))
+    let entered = c .before .before .before in
+    let a = entered .before .before .before .before .args in
+    turned-away (callOf (a .kind) (length (a .out .now))) (a .s) (a .store .now) (a .table .now) (never-empty (a .kind) _) (a .out .now) _
+    (subst (Enters (a .s) _ _) (c .before .way .given .1) (entered .enter .ensures))
 
 same-length : tie.Need-same-length
 same-length c = search needs
@@ -31,4 +40,12 @@ returns-2 c = search needs
 pub ask-spec : {M : Type 1} → statement M
 ask-spec =
     tie.close
-    (tie.spec guard-requires returns ask-guarded-requires same-length same-length-2 returns-2)
+    (tie.spec
+    enter-requires
+    enum-known-way
+    enum-told
+    ask-guarded-requires
+    returns
+    same-length
+    same-length-2
+    returns-2)

@@ -32,13 +32,13 @@ enum-told : tie.Need-enum-told
 enum-told c = search needs
 
 send-requires : tie.Need-send-requires
-send-requires c κs = (c .before .before .before .before .before .before .before .before .before .before .before .before .before .pre, record { cuts-is = refl; goes = tested-as (c .before .before .before .before) check.Go (cc) })
+send-requires c κs = (c .before .before .before .before .before .before .before .before .before .before .before .before .before .pre .1, record { cuts-is = refl; goes = tested-as (c .before .before .before .before) check.Go (cc) })
 
 returns : tie.Need-returns
 returns c =
     let start = c .before .before .before .before .before .before .before .before .before .before .before .before in
     let a = start .args in
-    ask-refuses (a .kind) (a .s) (a .store .now) (a .table .now) (a .out .now) (start .pre) (not (eqb (a .s .held) 0)) refl _
+    ask-refuses (a .kind) (a .s) (a .store .now) (a .table .now) (a .out .now) (start .pre .1) (start .pre .0) (not (eqb (a .s .held) 0)) refl _
     (tested-as (c .before .before .before) (check.Refuse _) (c .before .way .given .1))
 
 same-length : tie.Need-same-length
