@@ -17,8 +17,8 @@ use Rattle.worker.proofs.Waiters.{element-past}
 use Rattle.bidi_write.specs.Refusal.{numberOf}
 use Rattle.admission.specs.Rows.{nextRows}
 use Rattle.transport.specs.View.{phaseOf, view}
-use Rattle.transport.specs.Valid.{Valid}
-use Rattle.transport.specs.Promise.{Promise}
+use Rattle.transport.specs.Valid.{GuardedAt, Valid}
+use Rattle.transport.specs.Promise.{First, Promise}
 use Rattle.bidi_write.specs.Refusal.{checked}
 use Rattle.replays.specs.Replay.{cursorOf, HandsChunk, HandsRest}
 use Rattle.transport.specs.declared.Cursor.{Cursor}
@@ -32,6 +32,7 @@ use Rattle.bidi_write.specs.declared.Check.the-variants as check
 use Rattle.transport.specs.declared.Outcome.{Outcome}
 use Rattle.rules.proofs.Tests.{clash}
 use Rattle.bidi_write.proofs.Rows.{refused, passed, first-false, later}
+use Rattle.transport.proofs.First.{first-goes}
 use Rattle.transport.proofs.Refused as laws
 use Rattle.transport.proofs.Numbers.{chunks-are}
 
@@ -83,12 +84,15 @@ given-is (x ∷ l) zero = sym (lt-ltb 0 (suc (length l)) (omega arith))
 given-is (x ∷ l) (suc i) = given-is l i ∙ sym (leb·suc-suc (suc i) (length l))
 
 module _ (s : Session) (store : Bytes) (table : List ℕ) (out : Bytes) (n : ℕ) (phase-is : n ≡ R.phaseNumber (phaseOf (s .phase)))
-    (at : Cursor) (at-is : at ≡ cursorOf (s .phase)) where
+    (at : Cursor) (at-is : at ≡ cursorOf (s .phase)) (on : R.isEnded (phaseOf (s .phase)) ≡ false) (g : GuardedAt s (length store) (length table)) where
   abbrev more : Bool
   more = ltb (at .next) (s .worker .«replay_buffer» .chunks)
 
   abbrev short-out : Bool
   short-out = ltb (length out) (s .limit)
+
+  first : {r : Outcome} {out′ : Bytes} → First (R.nextRequest (length out)) s store table out r store table out′
+  first = first-goes (R.nextRequest (length out)) s store table refl on g
 
   place-at : place ((view s store table) .phase) ≡ at .next
   unfolding view
@@ -109,7 +113,7 @@ module _ (s : Session) (store : Bytes) (table : List ℕ) (out : Bytes) (n : ℕ
   pub next-refuses : (x : Refusal) → nextTests n (more && short-out) ≡ check.Refuse x
       → Promise (R.nextRequest (length out)) s store table out (record { session = s; answer = answer.Refused x }) store table out
   next-refuses x e =
-      laws.refusal (R.nextRequest (length out)) s store table out x (λ v. rule-refuses (length out) (view s store table) x (at-view (check.Refuse x) e v))
+      laws.refusal (R.nextRequest (length out)) s store table out x first (λ v. rule-refuses (length out) (view s store table) x (at-view (check.Refuse x) e v))
 
   module _ (goes : nextTests n (more && short-out) ≡ check.Go) where
     here : s .phase ≡ phase.Replay at
@@ -130,20 +134,28 @@ module _ (s : Session) (store : Bytes) (table : List ℕ) (out : Bytes) (n : ℕ
     pub next-chunk : (r : Outcome) (out′ : Bytes) → more ≡ true → HandsChunk s store table at out r out′
         → Promise (R.nextRequest (length out)) s store table out r store table out′
     next-chunk r out′ m h = record {
-      refuses = λ x f. absurd (h .accepted x f);
+      first = first;
+      refuses = λ x f. absurd (h .handed .accepted x f);
+      takes = omega (arith, h .handed .takes);
       store-beyond = refl;
       table-beyond = refl;
       out-beyond = h .fills;
+      sent-is = h .sent-is;
+      sent-in = h .sent-in;
       steps = λ v. h .hands v here (ltb-true _ _ m) (room m) .steps ∙ sym (rule-is v);
       stays = λ v. h .hands v here (ltb-true _ _ m) (room m) .stays;
     }
 
     pub next-rest : (r : Outcome) → more ≡ false → HandsRest s at r → Promise (R.nextRequest (length out)) s store table out r store table out
     next-rest r m h = record {
-      refuses = λ x f. absurd (h .accepted x f);
+      first = first;
+      refuses = λ x f. absurd (h .bare .handed .accepted x f);
+      takes = omega (arith, h .bare .handed .takes);
       store-beyond = refl;
       table-beyond = refl;
-      out-beyond = rw (h .empty out);
+      out-beyond = rw (h .bare .empty out, h .bare .length-is);
+      sent-is = rw (h .bare .empty out, h .bare .length-is);
+      sent-in = omega (arith, h .bare .length-is);
       steps = λ v. h .hands store table out v here (ltb-false _ _ m) .steps ∙ sym (rule-is v ∙ no-chunk v);
       stays = λ v. h .hands store table out v here (ltb-false _ _ m) .stays;
     }

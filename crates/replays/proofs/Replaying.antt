@@ -3,7 +3,7 @@
 use mathlib.Core.Path.{_≡_, refl, sym, ap, ap₂, _∙_, subst}
 use mathlib.Core.Bool.{Bool, true, false, not, _&&_}
 use mathlib.Core.Option.{Option, none, some}
-use mathlib.Core.List.{List, [], _++_}
+use mathlib.Core.List.{List, []}
 use Prim.Native.Nat.{ℕ, suc, _+_, _-_, _*_, _≤_, _<_, _^_}
 use native.Mathlib.Omega.{arith}
 use native.Mathlib.Numerals.{add-one}
@@ -17,7 +17,7 @@ use Rattle.rules.specs.Upload as U
 use Rattle.rules.specs.Replay as P
 use Rattle.rules.specs.Notes.{contentOf}
 use Rattle.ring.specs.Ring.{part}
-use Rattle.bidi_write.specs.View.{checksumOf, requestOf}
+use Rattle.bidi_write.specs.View.{checksumOf, lengthOf, requestOf}
 use Rattle.bidi_write.specs.declared.Request as code
 use Rattle.replay_buffer.specs.View.{total, wordsOf}
 use Rattle.replay_buffer.specs.Replay.{chunkIn, Replays}
@@ -28,19 +28,19 @@ use Rattle.worker.specs.View.{requestFor, pendingOf, waitersOf, workerOf}
 use Rattle.worker.specs.declared.PendingKind.{PendingKind}
 use Rattle.worker.specs.declared.PendingKind.the-variants as kind
 use Rattle.worker.specs.declared.PendingRequest.{PendingRequest}
+use Rattle.worker.proofs.Lengths.{no-length, carried-length}
 use Rattle.worker.proofs.Waiters.{element-past}
 use Rattle.transport.specs.View.{phaseOf, lentOf, endOf, view}
 use Rattle.transport.specs.Valid.{marked, owed, CursorAt, Valid}
 use Rattle.transport.specs.Promise.{sentData}
 use Rattle.transport.specs.Parts.{setPhase, setWorker}
-use Rattle.replays.specs.Replay.{Further, HandsChunk, HandsRest, HandsLast}
+use Rattle.replays.specs.Replay.{Further, HandsOut, HandsChunk, HandsRest, HandsLast}
 use Rattle.transport.specs.declared.Cursor.{Cursor}
 use Rattle.transport.specs.declared.Phase.{Phase}
 use Rattle.transport.specs.declared.Phase.the-variants as phase
 use Rattle.transport.specs.declared.Sent.{Sent}
 use Rattle.transport.specs.declared.Sent.the-variants as sent
 use Rattle.transport.specs.declared.Session.{Session}
-use Rattle.bidi_write.specs.declared.Refusal.{Refusal}
 use Rattle.transport.specs.declared.Answer.the-variants as answer
 use Rattle.transport.specs.declared.Outcome.{Outcome}
 use Rattle.transport.proofs.Numbers.{fits, chunks-are, waiters-are, watermark-is}
@@ -49,11 +49,11 @@ use Rattle.transport.proofs.Views.{valid-phase}
 
 -- ---- the cursor
 
-no-sends : (r : code.Request) (x : Refusal) → answer.Sends r ≡ answer.Refused x → ⊥
-no-sends r x e = let z : _≡_ {A = ℕ} 0 1 = cc in absurd (omega arith)
+sends-out : (s : Session) (m : code.Request) → HandsOut (record { session = s; answer = answer.Sends m })
+sends-out s m = record { accepted = λ x e. let z : _≡_ {A = ℕ} 0 1 = cc in absurd (omega arith); takes = refl }
 
-no-done : (x : Refusal) → answer.Done ≡ answer.Refused x → ⊥
-no-done x e = let z : _≡_ {A = ℕ} 0 1 = cc in absurd (omega arith)
+done-out : (s : Session) → HandsOut (record { session = s; answer = answer.Done })
+done-out s = record { accepted = λ x e. let z : _≡_ {A = ℕ} 0 1 = cc in absurd (omega arith); takes = refl }
 
 marked-low : (m : Bool) → marked m ≤ 1
 marked-low true = omega arith
@@ -112,8 +112,8 @@ module _ (s : Session) (store : Bytes) (table : List ℕ) (at : Cursor) (out : B
       ap (λ (r : Request). contentOf (r .checksummedData)) (carries out′) ∙ ap (take (c .length)) (reads .out-is)
       ∙ take-at bytes (drop (c .length) out) (c .length) bytes-length
 
-  fills : out′ ≡ sentData (answer.Sends m) out′ ++ drop (length (sentData (answer.Sends m) out′)) out
-  fills = rw (data-is, bytes-length) (reads .out-is)
+  length-is : lengthOf (m .«data») ≡ c .length
+  length-is = carried-length m (c .«write_offset» .0) (c .length) (c .crc32c) false carries
 
   module _ (v : Valid s store table) (here : s .phase ≡ phase.Replay at) (more : at .next < s .worker .«replay_buffer» .chunks) (room : s .limit ≤ length out) where
     at-is : at .bytes ≡ total (take (at .next) (wordsOf (lentOf s) (s .worker .«replay_buffer») table))
@@ -142,8 +142,10 @@ module _ (s : Session) (store : Bytes) (table : List ℕ) (at : Cursor) (out : B
 
   pub hands-chunk : HandsChunk s store table at out (record { session = setPhase (phase.Replay k) sent.Request s; answer = answer.Sends m }) out′
   hands-chunk = record {
-    accepted = no-sends m;
-    fills = fills;
+    handed = sends-out _ m;
+    fills = rw (data-is, length-is) (reads .out-is);
+    sent-is = rw (data-is, length-is) bytes-length;
+    sent-in = omega (arith, length-is, reads .in-out);
     hands = λ v here more room. record { steps = chunk-steps v here more room; stays = chunk-stays v here more room };
   }
 
@@ -179,8 +181,11 @@ module _ (s : Session) (at : Cursor) (p : PendingRequest) (waits : at .next - s 
 
   pub hands-waiter : HandsRest s at (record { session = setPhase (phase.Replay k) sent.Request s; answer = answer.Sends m })
   hands-waiter = record {
-    accepted = no-sends m;
-    empty = waiter-empty;
+    bare = record {
+      handed = sends-out _ m;
+      empty = waiter-empty;
+      length-is = no-length m [] _ (asks []) (no-data (p .kind) (p .«write_offset» .0) (checksumOf (p .«object_checksums»)));
+    };
     hands = λ store table out v here past. record { steps = waiter-steps store table out v here past; stays = waiter-stays store table out v here past };
   }
 
@@ -189,8 +194,7 @@ pub hands-past : (s : Session) (at : Cursor) (r : Outcome) → s .worker .«pend
     → HandsLast s at r → HandsRest s at r
 unfolding P.handsChunk P.handsWaiter
 hands-past s at r h l = record {
-  accepted = l .accepted;
-  empty = l .empty;
+  bare = l .bare;
   hands = λ store table out v here past. record { steps = l .hands store table out v here past .steps ∙ sym (none-left store table v); stays = l .hands store table out v here past .stays };
 }
   where
@@ -250,16 +254,18 @@ module _ (s : Session) (at : Cursor) (needed : needsFlush s ≡ true) (m : code.
 
   pub hands-flush : HandsLast s at (record { session = marking; answer = answer.Sends m })
   hands-flush = record {
-    accepted = no-sends m;
-    empty = λ out. ap (λ (r : Request). contentOf (r .checksummedData)) (asks out);
+    bare = record {
+      handed = sends-out _ m;
+      empty = λ out. ap (λ (r : Request). contentOf (r .checksummedData)) (asks out);
+      length-is = no-length m [] _ (asks []) refl;
+    };
     hands = λ store table out v here past. record { steps = flush-steps store table out v here past; stays = flush-stays store table out v here past };
   }
 
 pub hands-done : (s : Session) (at : Cursor) → needsFlush s ≡ false → HandsLast s at (record { session = setPhase phase.Live sent.Nothing s; answer = answer.Done })
 unfolding view R.choose
 hands-done s at e = record {
-  accepted = no-done;
-  empty = λ out. refl;
+  bare = record { handed = done-out _; empty = λ out. refl; length-is = refl };
   hands = λ store table out v here past. record {
     steps = sym (chosen (R.watermark (view s store table)) false _ _ (sym (watermark-is s store table v) ∙ e));
     stays = valid-phase phase.Live sent.Nothing s store table v (λ _. followed s store table at v here) tt;

@@ -1,10 +1,11 @@
 -- A send reported failed: what the code tests and leaves is what the rule says.
 -- Assumes nothing.
-use mathlib.Core.Path.{_≡_, refl, sym, ap₂, _∙_}
+use mathlib.Core.Path.{_≡_, refl, sym, ap, ap₂, _∙_}
 use mathlib.Core.Bool.{Bool, not, cond, _&&_}
 use mathlib.Core.List.{List}
 use Prim.Native.Nat.{ℕ}
 use native.Mathlib.Omega.{arith}
+use lib.Dec.{eqb}
 use Rattle.rules.specs.Message.{Bytes}
 use Rattle.rules.specs.Session as R
 use Rattle.rules.specs.Replay.{isNothing, isBare, unsent}
@@ -26,7 +27,9 @@ use Rattle.transport.specs.declared.Phase.the-variants as phase
 use Rattle.bidi_write.specs.declared.Refusal.{Refusal}
 use Rattle.transport.specs.declared.Sent.the-variants as sent
 use Rattle.transport.specs.declared.Session.{Session}
+use Rattle.rules.proofs.Tests.{clash}
 use Rattle.bidi_write.proofs.Rows.{refused, passed}
+use Rattle.transport.proofs.First.{over-first, first-free}
 use Rattle.transport.proofs.Refused.{refusal}
 use Rattle.transport.proofs.Views.{runs, valid-renewed}
 
@@ -71,17 +74,24 @@ module _ (s : Session) (store : Bytes) (table : List ℕ) (out : Bytes) (n : ℕ
 
   pub unsent-refuses : (x : Refusal) → unsentTests n nothing ≡ check.Refuse x
       → Promise R.sendFailed s store table out (record { session = s; answer = answer.Refused x }) store table out
-  unsent-refuses x e = refusal R.sendFailed s store table out x (λ _. rule-refuses (view s store table) x (at-view (check.Refuse x) e))
+  unsent-refuses x e =
+      refusal R.sendFailed s store table out x
+      (first-free R.sendFailed s store table refl refl (λ f. over-first _ x _ e (ap (λ (k : ℕ). eqb k 6) phase-is ∙ f)))
+      (λ _. rule-refuses (view s store table) x (at-view (check.Refuse x) e))
 
   pub unsent-accepts : (mark : Bool) → unsentTests n nothing ≡ check.Go → mark ≡ (s .worker .«self_flush_outstanding» && not (isBare (sentOf (s .sent))))
       → Promise R.sendFailed s store table out
       (record { session = renewed (s .worker .connector) mark (stopped (s .phase)) sent.Nothing s; answer = answer.Accepted }) store table out
   unfolding view workerOf
   unsent-accepts mark e mark-is = record {
+    first = first-free R.sendFailed s store table refl refl (λ f. clash f (runs s n phase-is _ _ e));
     refuses = λ x f. let z : _≡_ {A = ℕ} 0 1 = cc in absurd (omega arith);
+    takes = omega arith;
     store-beyond = refl;
     table-beyond = refl;
     out-beyond = refl;
+    sent-is = refl;
+    sent-in = omega arith;
     steps = λ v. ap₂ (λ (p : R.Phase) (m : Bool). R.answers R.ok (R.setPhase p R.nothing (R.setWorker (R.setMark m (view s store table .worker)) (view s store table))))
         (stopped-is (s .phase)) mark-is
         ∙ sym (rule-accepts (view s store table) (at-view check.Go e));

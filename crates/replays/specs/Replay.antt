@@ -7,7 +7,7 @@ use lib.ListN.{length, drop, getElem?}
 use Rattle.rules.specs.Message.{Bytes}
 use Rattle.rules.specs.Session as R
 use Rattle.rules.specs.Replay.{handsChunk, handsLast}
-use Rattle.transport.specs.View.{view, answerOf}
+use Rattle.transport.specs.View.{view, answerOf, takenIn, sentLength}
 use Rattle.transport.specs.Valid.{Valid}
 use Rattle.transport.specs.Promise.{sentData}
 use Rattle.transport.specs.declared.Cursor.{Cursor}
@@ -40,26 +40,34 @@ pub record Accepts (store : Bytes) (table : List ℕ) (r : Outcome) (out′ : By
   pub steps : R.answers (answerOf (r .answer) out′) (view (r .session) store table) ≡ result
   pub stays : Valid (r .session) store table
 
-abbrev pub NotRefused : Outcome → Type 0
-NotRefused r = (x : Refusal) → r .answer ≡ answer.Refused x → ⊥
+-- a request, or *done*: no refusal, and nothing is taken
+pub record HandsOut (r : Outcome) : Type 0 where
+  pub accepted : (x : Refusal) → r .answer ≡ answer.Refused x → ⊥
+  pub takes : takenIn (r .answer) ≡ 0
+
+-- the same without data
+pub record HandsNoData (r : Outcome) : Type 0 where
+  pub handed : HandsOut r
+  pub empty : (out : Bytes) → sentData (r .answer) out ≡ []
+  pub length-is : sentLength (r .answer) ≡ 0
 
 -- the chunk at the cursor
 pub record HandsChunk (s : Session) (store : Bytes) (table : List ℕ) (at : Cursor) (out : Bytes) (r : Outcome) (out′ : Bytes) : Type 0 where
-  pub accepted : NotRefused r
-  pub fills : out′ ≡ sentData (r .answer) out′ ++ drop (length (sentData (r .answer) out′)) out
+  pub handed : HandsOut r
+  pub fills : out′ ≡ sentData (r .answer) out′ ++ drop (sentLength (r .answer)) out
+  pub sent-is : length (sentData (r .answer) out′) ≡ sentLength (r .answer)
+  pub sent-in : sentLength (r .answer) ≤ length out
   pub hands : Valid s store table → s .phase ≡ phase.Replay at → at .next < s .worker .«replay_buffer» .chunks → s .limit ≤ length out
       → Accepts store table r out′ (handsChunk (getElem? (R.chunks (view s store table)) (at .next)) (at .next) (view s store table))
 
--- what stands behind the chunks: no data
+-- what stands behind the chunks
 pub record HandsRest (s : Session) (at : Cursor) (r : Outcome) : Type 0 where
-  pub accepted : NotRefused r
-  pub empty : (out : Bytes) → sentData (r .answer) out ≡ []
+  pub bare : HandsNoData r
   pub hands : (store : Bytes) (table : List ℕ) (out : Bytes) → Valid s store table → s .phase ≡ phase.Replay at
       → s .worker .«replay_buffer» .chunks ≤ at .next → Accepts store table r out (handsChunk none (at .next) (view s store table))
 
 -- what stands behind the waiting requests
 pub record HandsLast (s : Session) (at : Cursor) (r : Outcome) : Type 0 where
-  pub accepted : NotRefused r
-  pub empty : (out : Bytes) → sentData (r .answer) out ≡ []
+  pub bare : HandsNoData r
   pub hands : (store : Bytes) (table : List ℕ) (out : Bytes) → Valid s store table → s .phase ≡ phase.Replay at
       → s .worker .«replay_buffer» .chunks ≤ at .next → Accepts store table r out (handsLast (at .next) (view s store table))

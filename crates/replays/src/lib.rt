@@ -2,19 +2,18 @@
 // Next request: "Replay hands out one request a call: stored chunks, waiting requests, a bare flush if the watermark holds, then *done*, live again."
 // And a send reported failed, which ends a replay.
 ghost use mathlib.Core.Path.{_≡_};
-ghost use mathlib.Core.Bool.{not, _&&_};
+ghost use mathlib.Core.Bool.{false, not, _&&_};
 ghost use Prim.Native.Nat.{_+_, _<_, _≤_, _^_};
 ghost use lib.ListN.{length};
 ghost use Rattle.rules.specs.Limits.{maxWaiters};
 ghost use Rattle.rules.specs.Session as R;
 ghost use Rattle.rules.specs.Replay.{isNothing, isBare};
 ghost use Rattle.transport.specs.Promise.{Promise, Promised};
-ghost use Rattle.transport.specs.View.{sentOf};
+ghost use Rattle.transport.specs.View.{phaseOf, sentOf};
 ghost use Rattle.replays.specs.Replay.{cursorOf, Further, HandsChunk, HandsRest, HandsLast};
 ghost use Rattle.replays.specs.Unsent.{stopped};
 ghost use Rattle.transport.specs.Valid.{GuardedAt};
 use bidi_write::Check;
-use bidi_write::Refusal;
 use bidi_write::both;
 use transport::Answer;
 use transport::Cursor;
@@ -22,7 +21,7 @@ use transport::Outcome;
 use transport::Phase;
 use transport::Sent;
 use transport::Session;
-use transport::guard::guard;
+use transport::guard::enter;
 use transport::parts::renew;
 use transport::parts::set_phase;
 use transport::phases::phase_number;
@@ -30,17 +29,18 @@ use transport::phases::phase_number;
 pub fn next_request(s: Session, store: &[u8], table: &[u64], out: &mut [u8]) -> Outcome
     ensures { λ r. ⌜ Promise (R.nextRequest (length (now (out .entry)))) s (now (store .entry)) (now (table .entry)) (now (out .entry)) r (now (store .exit)) (now (table .exit)) (now (out .exit)) ⌝ }
 {
-    if guard(s, store.len(), table.len()) {
-        next_guarded(s, store, table, out)
-    } else {
-        Outcome {
+    let way = enter(s, store.len(), table.len());
+    match way {
+        Check::Refuse(first) => Outcome {
             session: s,
-            answer: Answer::Refused(Refusal::ShortMemory),
-        }
+            answer: Answer::Refused(first),
+        },
+        Check::Go => next_guarded(s, store, table, out),
     }
 }
 
 fn next_guarded(s: Session, store: &[u8], table: &[u64], out: &mut [u8]) -> Outcome
+    requires { ⌜ R.isEnded (phaseOf (s .phase)) ≡ false ⌝ }
     requires { ⌜ GuardedAt s (length (now store)) (length (now table)) ⌝ }
     ensures { λ r. ⌜ Promise (R.nextRequest (length (now (out .entry)))) s (now (store .entry)) (now (table .entry)) (now (out .entry)) r (now (store .exit)) (now (table .exit)) (now (out .exit)) ⌝ }
 {

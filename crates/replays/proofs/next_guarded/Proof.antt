@@ -35,7 +35,7 @@ returns c =
     let asked = tested .before .before .before .before .before in
     let start = asked .before .before .before .before .before in
     next-refuses (start .args .s) (start .args .store .now) (start .args .table .now) (start .args .out .now) (asked .before .phase-number .result) (asked .before .phase-number .ensures)
-    (asked .cursor .result) (asked .cursor .ensures)
+    (asked .cursor .result) (asked .cursor .ensures) (start .pre .0) (start .pre .1)
     _ (ap (nextTests (asked .before .phase-number .result)) (sym (tested .before .both .ensures)) ∙ sym (tested .next-request .ensures) ∙ c .before .way .given .1)
 
 same-length : tie.Need-same-length
@@ -47,7 +47,7 @@ returns-2 c =
     let asked = tested .before .before .before .before .before in
     let start = asked .before .before .before .before .before in
     next-chunk (start .args .s) (start .args .store .now) (start .args .table .now) (start .args .out .now) (asked .before .phase-number .result) (asked .before .phase-number .ensures)
-    (asked .cursor .result) (asked .cursor .ensures)
+    (asked .cursor .result) (asked .cursor .ensures) (start .pre .0) (start .pre .1)
     (ap (nextTests (asked .before .phase-number .result)) (sym (tested .before .both .ensures)) ∙ sym (tested .next-request .ensures) ∙ c .before .before .before .before .before .enum-told .given .1)
     (c .before .before .hand-chunk .result) (c .before .before .hand-chunk .last .1 .1 .1 .0) (c .before .before .before .before .if1 .taken) (c .before .before .hand-chunk .ensures)
 
@@ -57,7 +57,7 @@ returns-3 c =
     let asked = tested .before .before .before .before .before in
     let start = asked .before .before .before .before .before in
     next-rest (start .args .s) (start .args .store .now) (start .args .table .now) (start .args .out .now) (asked .before .phase-number .result) (asked .before .phase-number .ensures)
-    (asked .cursor .result) (asked .cursor .ensures)
+    (asked .cursor .result) (asked .cursor .ensures) (start .pre .0) (start .pre .1)
     (ap (nextTests (asked .before .phase-number .result)) (sym (tested .before .both .ensures)) ∙ sym (tested .next-request .ensures) ∙ c .before .before .enum-told .given .1)
     (c .hand-rest .result) (c .before .if1 .left) (c .hand-rest .ensures)
 
