@@ -47,67 +47,66 @@ module _ {o : Opening} {b : Beside} {store : Bytes} {table : List ℕ} {c : Conn
     (connects : Connects o (b .bucket) (b .object) (b .writeHandle) (b .routingToken) (b .responseHandle) c)
     (stores : Stores (o .limit) (buffer .capacity) (payloadOf o b) (p .0) store table buffer store′ table′)
     (at-is : at .0 ≡ O.larger (p .0) (pos (O.payloadLength (payloadOf o b)))) (at-top : toℕ (at .0) < 2 ^ 63)
-    (run-is : checksumOf run ≡ O.openSum (payloadOf o b) (p .0) (checksumOf (o .checksum)))
-  where
-    abbrev left : Session
-    left = freshSession (o .limit) (length table) phase.Live at run c buffer p
+    (run-is : checksumOf run ≡ O.openSum (payloadOf o b) (p .0) (checksumOf (o .checksum))) where
+  abbrev left : Session
+  left = freshSession (o .limit) (length table) phase.Live at run c buffer p
 
-    offset : at .0 ≡ pos (max (toℕ (p .0)) (O.payloadLength (payloadOf o b)))
-    offset = at-is ∙ larger-is (p .0) (O.payloadLength (payloadOf o b))
+  offset : at .0 ≡ pos (max (toℕ (p .0)) (O.payloadLength (payloadOf o b)))
+  offset = at-is ∙ larger-is (p .0) (O.payloadLength (payloadOf o b))
 
-    offset-nat : toℕ (at .0) ≡ max (toℕ (p .0)) (O.payloadLength (payloadOf o b))
-    offset-nat = ap toℕ offset
+  offset-nat : toℕ (at .0) ≡ max (toℕ (p .0)) (O.payloadLength (payloadOf o b))
+  offset-nat = ap toℕ offset
 
-    left-valid : Valid left store′ table′
-    left-valid =
-        let n : O.payloadLength (payloadOf o b) ≤ o .limit = not-over (o .limit) (o .«has_payload») (b .payload) (admitted .payload-in) in
-        let e : toℕ (at .0) ≡ max (toℕ (p .0)) (O.payloadLength (payloadOf o b)) = offset-nat in
-        record {
-          guarded = record {
-            limit-some = admitted .limit-some;
-            limit-top = admitted .limit-top;
-            capacity-low = omega arith;
-            capacity-top = omega (arith, admitted .asked-top, admitted .limit-top);
-            store-lent = stores .fits .store-lent;
-            table-lent = stores .fits .table-lent;
-            head-in = stores .fits .head-in;
-            stored-in = omega (arith, stores .fits .started, capacity-is);
-            held-in = admitted .limit-some;
-            first-in = stores .fits .first-in;
-            chunks-in = stores .fits .chunks-in;
-            waiting-in = omega (arith, none-counted);
-            offset-in = ap (λ (z : ℤ). ltZ z (pos 0)) offset ∙ le-ltb (max (toℕ (p .0)) (O.payloadLength (payloadOf o b))) 0 (omega arith);
-            offset-top = at-top;
-            started = omega (arith, stores .fits .started, e);
-          };
-          slots-in = slots-top;
-          sound = stores .sound;
-          waiting-is = ap length none-waits ∙ sym none-counted;
-          spec-fits = connects .fits;
-          followed = λ f. omega (arith, connects .redirects-is);
-          cursor = tt;
-        }
+  left-valid : Valid left store′ table′
+  left-valid =
+      let n : O.payloadLength (payloadOf o b) ≤ o .limit = not-over (o .limit) (o .«has_payload») (b .payload) (admitted .payload-in) in
+      let e : toℕ (at .0) ≡ max (toℕ (p .0)) (O.payloadLength (payloadOf o b)) = offset-nat in
+      record {
+        guarded = record {
+          limit-some = admitted .limit-some;
+          limit-top = admitted .limit-top;
+          capacity-low = omega arith;
+          capacity-top = omega (arith, admitted .asked-top, admitted .limit-top);
+          store-lent = stores .fits .store-lent;
+          table-lent = stores .fits .table-lent;
+          head-in = stores .fits .head-in;
+          stored-in = omega (arith, stores .fits .started, capacity-is);
+          held-in = admitted .limit-some;
+          first-in = stores .fits .first-in;
+          chunks-in = stores .fits .chunks-in;
+          waiting-in = omega (arith, none-counted);
+          offset-in = ap (λ (z : ℤ). ltZ z (pos 0)) offset ∙ le-ltb (max (toℕ (p .0)) (O.payloadLength (payloadOf o b))) 0 (omega arith);
+          offset-top = at-top;
+          started = omega (arith, stores .fits .started, e);
+        };
+        slots-in = slots-top;
+        sound = stores .sound;
+        waiting-is = ap length none-waits ∙ sym none-counted;
+        spec-fits = connects .fits;
+        followed = λ f. omega (arith, connects .redirects-is);
+        cursor = tt;
+      }
 
-    queue-is : queueOf (lentOf left) buffer (toℕ (at .0)) store′ table′ ≡ O.openChunks (payloadOf o b) (p .0)
-    queue-is =
-        ap (λ (n : ℕ). queueOf (lentOf left) buffer n store′ table′) offset-nat
-        ∙ queue-at (o .limit) (lentOf left) buffer (payloadOf o b) (p .0) store′ table′ (stores .fits) (stores .sound) (stores .queue-is)
+  queue-is : queueOf (lentOf left) buffer (toℕ (at .0)) store′ table′ ≡ O.openChunks (payloadOf o b) (p .0)
+  queue-is =
+      ap (λ (n : ℕ). queueOf (lentOf left) buffer n store′ table′) offset-nat
+      ∙ queue-at (o .limit) (lentOf left) buffer (payloadOf o b) (p .0) store′ table′ (stores .fits) (stores .sound) (stores .queue-is)
 
-    connector-is : connectorOf c ≡ record {
-      spec = S.handleResponse (responseOf (o .response) (b .responseHandle)) (dialled o b);
-      attemptCount = 0;
-      redirectsFollowed = 0;
-      lastPersistedSize = o .«last_persisted_size» .0;
-    }
-    unfolding connectorOf
-    connector-is = rw (connects .spec-is (b .payload), connects .attempts-is, connects .redirects-is, connects .size-is)
+  connector-is : connectorOf c ≡ record {
+    spec = S.handleResponse (responseOf (o .response) (b .responseHandle)) (dialled o b);
+    attemptCount = 0;
+    redirectsFollowed = 0;
+    lastPersistedSize = o .«last_persisted_size» .0;
+  }
+  unfolding connectorOf
+  connector-is = rw (connects .spec-is (b .payload), connects .attempts-is, connects .redirects-is, connects .size-is)
 
-    left-view : view left store′ table′ ≡ O.openSession (openingOf o b (length store) (length table))
-    unfolding view workerOf part openingOf O.openSession
-    left-view = rw (queue-is, connector-is, at-is, run-is, capacity-is, none-waits, size-is)
+  left-view : view left store′ table′ ≡ O.openSession (openingOf o b (length store) (length table))
+  unfolding view workerOf part openingOf O.openSession
+  left-view = rw (queue-is, connector-is, at-is, run-is, capacity-is, none-waits, size-is)
 
-    left-starts : Starts o b store table left store′ table′
-    left-starts = record { view-is = left-view; valid = left-valid; store-beyond = stores .store-beyond; table-beyond = stores .table-beyond }
+  left-starts : Starts o b store table left store′ table′
+  left-starts = record { view-is = left-view; valid = left-valid; store-beyond = stores .store-beyond; table-beyond = stores .table-beyond }
 
 pub starts : {o : Opening} {b : Beside} {store : Bytes} {table : List ℕ} {asked capacity n : ℕ} {p at : Offset} {run : Checksum} {c : Connector} {buffer : ReplayBuffer} {s : Session}
     {store′ : Bytes} {table′ : List ℕ}
