@@ -8,7 +8,7 @@ use lib.ListN.{length}
 use Rattle.rules.specs.Message.{Bytes}
 use Rattle.rules.specs.Opening as O
 use Rattle.transport.specs.View.{view}
-use Rattle.openings.specs.Opening.{Beside, unopened, openedOf, OpensAs, Opens, Admits, Starts}
+use Rattle.openings.specs.Opening.{Beside, unopened, openedOf, openedAs, OpensAs, Opens, Admits, Starts}
 use Rattle.bidi_write.specs.declared.Check.{Check}
 use Rattle.bidi_write.specs.declared.Check.the-variants as check
 use Rattle.bidi_write.specs.declared.Refusal.{Refusal}
@@ -23,8 +23,9 @@ not-opened x e = let z : _≡_ {A = ℕ} 0 1 = cc in absurd (omega arith)
 
 module _ {o : Opening} {b : Beside} {store : Bytes} {table : List ℕ} {k : Check} where
   pub opens-refused : {x : Refusal} {s : Session} → Admits o b (length store) (length table) k → k ≡ check.Refuse x → s ≡ unopened
-      → Opens o b store table (record { session = s; answer = answer.Refused x }) store table
+      → Opens o b store table (openedAs s (answer.Refused x)) store table
   opens-refused {x} admits e f = record {
+    writer-is = refl;
     opens-is = sym (admits .refuses x e);
     refuses = λ y g. (f, refl, refl);
     store-beyond = refl;
@@ -33,8 +34,9 @@ module _ {o : Opening} {b : Beside} {store : Bytes} {table : List ℕ} {k : Chec
   }
 
   pub opens-accepted : {s : Session} {store′ : Bytes} {table′ : List ℕ} → Admits o b (length store) (length table) k → k ≡ check.Go
-      → Starts o b store table s store′ table′ → Opens o b store table (record { session = s; answer = answer.Opened }) store′ table′
+      → Starts o b store table s store′ table′ → Opens o b store table (openedAs s answer.Opened) store′ table′
   opens-accepted admits e starts = record {
+    writer-is = refl;
     opens-is = ap O.opened (starts .view-is) ∙ sym (admits .goes e);
     refuses = λ y g. not-opened y (sym g);
     store-beyond = starts .store-beyond;

@@ -136,8 +136,13 @@ abbrev pub openedOf : OpenAnswer → R.Session → O.Opened
 openedOf (answer.Refused x) s = O.turnedAway (numberOf x)
 openedOf answer.Opened s = O.opened s
 
+-- a session with the writer's generation and persisted size (`generation`, `persisted_size` of transport.rs): its own
+abbrev pub openedAs : Session → OpenAnswer → Opened
+openedAs s a = record { session = s; answer = a; generation = s .worker .connector .spec .generation; «persisted_size» = s .worker .«persisted_size» }
+
 -- the rules' opening o, from the store and table lent to what it answered and left of them
 pub record OpensAs (o : O.Opening) (store : Bytes) (table : List ℕ) (r : Opened) (store′ : Bytes) (table′ : List ℕ) : Type 0 where
+  pub writer-is : r ≡ openedAs (r .session) (r .answer)
   pub opens-is : openedOf (r .answer) (view (r .session) store′ table′) ≡ O.opens o
   -- a refused opening touches nothing, and leaves a session that ended
   pub refuses : (x : Refusal) → r .answer ≡ answer.Refused x → (r .session ≡ unopened) × (store′ ≡ store) × (table′ ≡ table)

@@ -8,7 +8,7 @@ ghost use mathlib.Core.Option.{Option·getD};
 ghost use Prim.Native.Nat.{_<_, _≤_};
 ghost use lib.Dec.{ltb, eqb};
 ghost use Rattle.rules.specs.Limits.{defaultCapacity, maxChunk, maxCapacity, storeSize};
-ghost use Rattle.openings.specs.Opening.{beside, askedOf, Admits, Opens};
+ghost use Rattle.openings.specs.Opening.{beside, askedOf, openedAs, Admits, Opens};
 use crate::starting::capacity_for;
 use crate::starting::start;
 use crate::starting::unopened;
@@ -63,6 +63,9 @@ pub enum OpenAnswer {
 pub struct Opened {
     pub session: Session,
     pub answer: OpenAnswer,
+    // the writer's `generation` and `persisted_size`, as the opening left them
+    pub generation: Generation,
+    pub persisted_size: Offset,
 }
 
 pub fn open(
@@ -92,10 +95,7 @@ pub fn open(
     match way {
         Check::Refuse(x) => {
             let session = unopened();
-            Opened {
-                session,
-                answer: OpenAnswer::Refused(x),
-            }
+            writer(session, OpenAnswer::Refused(x))
         }
         Check::Go => {
             let session = start(
@@ -109,11 +109,22 @@ pub fn open(
                 response_handle,
                 payload,
             );
-            Opened {
-                session,
-                answer: OpenAnswer::Opened,
-            }
+            writer(session, OpenAnswer::Opened)
         }
+    }
+}
+
+// The session, with what the source's writer tells of it.
+fn writer(session: Session, answer: OpenAnswer) -> Opened
+    ensures { λ r. ⌜ r ≡ openedAs session answer ⌝ }
+{
+    let generation = session.worker.connector.spec.generation;
+    let persisted_size = session.worker.persisted_size;
+    Opened {
+        session,
+        answer,
+        generation,
+        persisted_size,
     }
 }
 
