@@ -2,17 +2,16 @@
 -- Assumes nothing.
 use mathlib.Core.Path.{_≡_, refl, sym, ap, _∙_, subst}
 use mathlib.Core.Bool.{Bool, true, false, not, _&&_}
-use mathlib.Core.Option.{none, some}
+use mathlib.Core.Option.{some}
 use mathlib.Core.List.{List, []}
 use Prim.Native.Nat.{ℕ, _*_, _-_}
 use native.Mathlib.Omega.{arith}
 use lib.Dec.{leb, eqb}
 use Rattle.rules.specs.Message.{Bytes}
-use Rattle.rules.specs.Message as M
 use Rattle.rules.specs.Session as R
 use Rattle.rules.specs.Respond.{lastStep, toReplay}
 use Rattle.rules.specs.Upload.{flushRequest}
-use Rattle.bidi_write.specs.View.{lengthOf, requestOf}
+use Rattle.bidi_write.specs.View.{requestOf}
 use Rattle.bidi_write.specs.declared.Cause.{Cause}
 use Rattle.bidi_write.specs.declared.Request.{Request}
 use Rattle.worker.specs.View.{workerOf}
@@ -32,7 +31,7 @@ use Rattle.bidi_write.specs.declared.Refusal.{Refusal}
 use Rattle.transport.specs.declared.Sent.the-variants as sent
 use Rattle.transport.specs.declared.Session.{Session}
 use Rattle.responses.specs.declared.Way.the-variants as way
-use Rattle.bidi_write.proofs.Lengths.{no-length}
+use Rattle.worker.proofs.Lengths.{no-length}
 use Rattle.rules.proofs.Tests.{and-left, and-right}
 use Rattle.transport.proofs.Numbers.{watermark-is}
 use Rattle.transport.proofs.Views.{no-cursor, live-no-replay}
@@ -59,10 +58,6 @@ flushes-at s n is e low l = record {
 
 completes-accepts : (d : Completed) (x : Refusal) → answer.Completes d ≡ answer.Refused x → ⊥
 completes-accepts d x e = let z : _≡_ {A = ℕ} 0 1 = cc in absurd (omega arith)
-
-bare-length : (q : Request) → requestOf q [] .checksummedData ≡ none → lengthOf (q .«data») ≡ 0
-unfolding requestOf
-bare-length q e = no-length (q .«data») [] e
 
 completes-none : (k : ℕ) → Quiet (answer.Completes (record { waiters = k; request = maybe.Absent }))
 completes-none k = record { accepts = completes-accepts _; none-taken = refl; none-sent = refl; no-data = λ out. refl }
@@ -100,7 +95,7 @@ module _ (s : Session) (k : ℕ) where
       quiet = record {
         accepts = completes-accepts _;
         none-taken = refl;
-        none-sent = bare-length q (ap (λ (r : M.Request). r .checksummedData) (is []));
+        none-sent = no-length q [] _ (is []) refl;
         no-data = λ out. rw (is out);
       };
       answers = flushed;
