@@ -3,8 +3,11 @@ ghost use lib.ListN.{length};
 ghost use Rattle.rules.specs.Session as R;
 ghost use Rattle.bidi_write.specs.View.{responseOf, breakOf};
 ghost use Rattle.transport.specs.Promise.{Promise, Promised, PromisedAt};
+ghost use Rattle.session.specs.Shown.{Shown, Dials};
 use bidi_write::Break;
 use bidi_write::Response;
+use session::shown::View;
+use state::AppendObjectSpec;
 use transport::Outcome;
 use transport::Session;
 
@@ -133,4 +136,18 @@ pub fn send_failed(s: Session) -> Outcome
         session: t,
         answer: a,
     }
+}
+
+pub fn view(s: Session) -> View
+    ensures { λ r. ⌜ Shown s r ⌝ }
+{
+    let t = s;
+    session::view(&t)
+}
+
+pub fn spec(s: Session) -> AppendObjectSpec
+    ensures { λ r. ⌜ Dials s r ⌝ }
+{
+    let t = s;
+    session::spec(&t)
 }
