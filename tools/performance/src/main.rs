@@ -1,13 +1,15 @@
-//! performance: the same uploads through the crate's own buffers and through the session as a static library, in one run. Prints the tables of
-//! docs/PERFORMANCE.md.
+//! performance BENCH FOLDER: the same uploads through the crate's own buffers and through the session as the program bench, in one run. Prints the tables
+//! of docs/PERFORMANCE.md. The folder is for the program's input.
 mod google;
 mod memory;
 mod ours;
 mod theirs;
+mod time;
 
 use bytes::Bytes;
+use std::env;
 use std::hint::black_box;
-use std::time::Instant;
+use std::path::{Path, PathBuf};
 
 #[global_allocator]
 static MEMORY: memory::Counting = memory::Counting;
@@ -16,7 +18,7 @@ const MIB: usize = 1 << 20;
 const WARM_UP: usize = 3;
 const ROUNDS: usize = 25;
 
-/// An upload: appends of `piece` bytes, a flush after each or none, finalise.
+/// An upload: appends of `piece` bytes or of a chunk of either side's own, whichever is less; a flush after each or none; finalise.
 pub struct Upload {
     name: &'static str,
     bytes: usize,
@@ -35,9 +37,9 @@ fn side_by_side(mut theirs: impl FnMut(), mut ours: impl FnMut()) -> (f64, f64) 
 }
 
 fn nanoseconds(f: &mut impl FnMut()) -> f64 {
-    let from = Instant::now();
+    let from = time::spent();
     f();
-    from.elapsed().as_nanos() as f64
+    time::spent() - from
 }
 
 /// A journal whose bytes are no pattern.
@@ -52,12 +54,14 @@ fn journal(n: usize) -> Bytes {
     std::iter::repeat_with(next).take(n).collect::<Vec<u8>>().into()
 }
 
-fn upload_row(u: &Upload, data: &Bytes, sizes: &ours::Sizes) {
+/// What the program takes for its start and for an upload of nothing is taken off.
+fn upload_row(u: &Upload, data: &Bytes, program: &Path, folder: &Path) {
     let data = data.slice(..u.bytes);
-    let mut session = ours::Memory::new(sizes);
-    let ns = side_by_side(|| assert_eq!(theirs::upload(u, &data), u.bytes), || assert_eq!(ours::upload(u, &data, sizes, &mut session), u.bytes));
-    session.check(u, &data);
-    a_byte(u.name, ns, u.bytes);
+    let bench = ours::Bench::new(program, &folder.join("upload"), u, &data);
+    let idle = ours::Bench::idle(program, &folder.join("idle"));
+    let (theirs, ours) = side_by_side(|| assert_eq!(theirs::upload(u, &data), u.bytes), || bench.run());
+    let (_, start) = side_by_side(|| (), || idle.run());
+    a_byte(u.name, (theirs, ours - start), u.bytes);
 }
 
 fn sum_row(data: &Bytes) {
@@ -118,24 +122,23 @@ fn memory_row(u: &Upload, data: &Bytes, sizes: &ours::Sizes) {
 }
 
 fn main() {
+    let paths: Vec<PathBuf> = env::args_os().skip(1).map(PathBuf::from).collect();
+    let [program, folder] = &paths[..] else { panic!("performance BENCH FOLDER") };
     let data = journal(64 * MIB);
     let day = Upload { name: "a day: 700 × 6,000, a flush each", bytes: 700 * 6000, piece: 6000, flush: true };
-    let long = |name, mib| Upload { name, bytes: mib * MIB, piece: 2 * MIB, flush: false };
+    let long = |name, mib| Upload { name, bytes: mib * MIB, piece: usize::MAX, flush: false };
     let growth = [long("1 MiB", 1), long("2 MiB", 2), long("4 MiB", 4), long("8 MiB", 8), long("16 MiB", 16), long("32 MiB", 32), long("64 MiB", 64)];
 
     println!("| upload | the crate's buffers, ns a byte | the session, ns a byte | ratio |\n|---|---|---|---|");
-    upload_row(&day, &data, &ours::CRATE);
+    upload_row(&day, &data, program, folder);
     for u in &growth {
-        upload_row(u, &data, &ours::CRATE);
+        upload_row(u, &data, program, folder);
     }
     sum_row(&data);
     instruction_row(&data);
     println!("\n| a join behind | squared matrices, ns | the session, ns | ratio |\n|---|---|---|---|");
     join_row("6,000 bytes", 6000);
     join_row("2 MiB", 2 * MIB);
-    println!("\nThe session with a bank's sizes (chunks of 8,192 bytes, capacity 32,768):\n");
-    println!("| upload | the crate's buffers, ns a byte | the session, ns a byte | ratio |\n|---|---|---|---|");
-    upload_row(&day, &data, &ours::BANK);
     println!(
         "\n| upload | the crate: allocated at most | allocations | caller's bytes kept at most | the session: lent | ratio |\n|---|---|---|---|---|---|"
     );
@@ -143,6 +146,6 @@ fn main() {
     for u in &growth {
         memory_row(u, &data, &ours::CRATE);
     }
-    println!("| with a bank's sizes: | | | | | |");
-    memory_row(&day, &data, &ours::BANK);
+    println!("| with the sizes of the times above: | | | | | |");
+    memory_row(&day, &data, &ours::BENCH);
 }

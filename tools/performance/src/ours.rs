@@ -1,24 +1,13 @@
-//! The session, as a static library: whole uploads over lent memory.
+//! The session, as the program `bench`: a whole upload as the records that it reads, in a process of its own. The sum and the join come from a static
+//! library.
 use crate::Upload;
-use bytes::Bytes;
+use std::fs::{self, File};
+use std::path::{Path, PathBuf};
+use std::process::{Command, Stdio};
 
 unsafe extern "C" {
     fn michqoya_crc32c(bytes: *const u8, length: usize) -> u32;
     fn michqoya_combine(crc1: u32, crc2: u32, len2: u64) -> u32;
-    fn michqoya_upload(
-        store: *mut u8,
-        store_length: usize,
-        table: *mut u64,
-        slots: usize,
-        out: *mut u8,
-        out_length: usize,
-        data: *const u8,
-        data_length: usize,
-        limit: usize,
-        capacity: usize,
-        piece: usize,
-        flush: bool,
-    ) -> usize;
 }
 
 pub fn crc32c(bytes: &[u8]) -> u32 {
@@ -39,53 +28,72 @@ pub struct Sizes {
 /// The crate's chunk size and default capacity.
 pub const CRATE: Sizes = Sizes { limit: 2 << 20, capacity: 32 << 20, slots: 64 };
 
-pub const BANK: Sizes = Sizes { limit: 8192, capacity: 32768, slots: 64 };
+/// What the bench program lends takes chunks of a bank's size: its store of 32,768 bytes has room for the least capacity. Each chunk then asks for a flush.
+pub const BENCH: Sizes = Sizes { limit: 8192, capacity: 16385, slots: 64 };
 
 impl Sizes {
-    /// Capacity and two chunks less two bytes: the least that an opening takes.
-    fn store(&self) -> usize {
-        self.capacity + 2 * (self.limit - 1)
-    }
-
-    /// All that the host lends; the session record comes on top.
+    /// All that a host lends: a store of capacity and two chunks less two bytes, the table, an out buffer. The session record comes on top.
     pub fn bytes(&self) -> usize {
-        self.store() + 8 * self.slots + self.limit
+        self.capacity + 2 * (self.limit - 1) + 8 * self.slots + self.limit
     }
 }
 
-pub struct Memory {
-    store: Vec<u8>,
-    table: Vec<u64>,
-    out: Vec<u8>,
+/// The program, and a file with the records of an upload.
+pub struct Bench {
+    program: PathBuf,
+    records: PathBuf,
 }
 
-impl Memory {
-    pub fn new(sizes: &Sizes) -> Memory {
-        Memory { store: vec![0; sizes.store()], table: vec![0; sizes.slots], out: vec![0; sizes.limit] }
+impl Bench {
+    pub fn new(program: &Path, records: &Path, u: &Upload, data: &[u8]) -> Bench {
+        fs::write(records, upload(u, data)).unwrap();
+        let bench = Bench { program: program.into(), records: records.into() };
+        bench.check(data.len());
+        bench
     }
 
-    /// The last chunk handed out is the end of the data; no piece is longer than a chunk.
-    pub fn check(&self, u: &Upload, data: &[u8]) {
-        let last = (data.len() - 1) % u.piece + 1;
-        assert!(data.ends_with(&self.out[..last]));
+    /// Only starts, opens and finalises.
+    pub fn idle(program: &Path, records: &Path) -> Bench {
+        Bench::new(program, records, &Upload { name: "", bytes: 0, piece: 0, flush: false }, &[])
+    }
+
+    pub fn run(&self) {
+        let status = self.command().stdout(Stdio::null()).status().unwrap();
+        assert!(status.success());
+    }
+
+    /// The last line is the finalise's request, behind all bytes.
+    fn check(&self, bytes: usize) {
+        let lines = String::from_utf8(self.command().output().unwrap().stdout).unwrap();
+        let last = lines.lines().last().unwrap();
+        assert!(last.starts_with(&format!("FI {bytes}:0:fw w")), "{last}");
+    }
+
+    fn command(&self) -> Command {
+        let mut c = Command::new(&self.program);
+        c.stdin(File::open(&self.records).unwrap());
+        c
     }
 }
 
-pub fn upload(u: &Upload, data: &Bytes, sizes: &Sizes, m: &mut Memory) -> usize {
-    unsafe {
-        michqoya_upload(
-            m.store.as_mut_ptr(),
-            m.store.len(),
-            m.table.as_mut_ptr(),
-            m.table.len(),
-            m.out.as_mut_ptr(),
-            m.out.len(),
-            data.as_ptr(),
-            data.len(),
-            sizes.limit,
-            sizes.capacity,
-            u.piece,
-            u.flush,
-        )
+/// Document 01's records: each piece, a flush or none, the response that all so far is persisted, and finalise.
+fn upload(u: &Upload, data: &[u8]) -> Vec<u8> {
+    let mut r = b"OP".to_vec();
+    r.extend((BENCH.limit as u16).to_le_bytes());
+    r.extend((BENCH.capacity as u32).to_le_bytes());
+    r.extend(0i64.to_le_bytes());
+    let mut sent = 0i64;
+    for piece in data.chunks(u.piece.clamp(1, BENCH.limit)) {
+        r.extend(b"AP");
+        r.extend((piece.len() as u16).to_le_bytes());
+        r.extend(piece);
+        if u.flush {
+            r.extend(b"FL");
+        }
+        sent += piece.len() as i64;
+        r.extend(b"RS");
+        r.extend(sent.to_le_bytes());
     }
+    r.extend(b"FI");
+    r
 }

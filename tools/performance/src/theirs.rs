@@ -95,8 +95,9 @@ fn run(u: &Upload, data: &Bytes, watched: Option<Range<*const u8>>) -> Writer {
         watched,
         most_kept: 0,
     };
-    for at in (0..data.len()).step_by(u.piece) {
-        w.append(data.slice(at..data.len().min(at + u.piece)));
+    let piece = u.piece.min(MAX_WRITE_CHUNK_SIZE);
+    for at in (0..data.len()).step_by(piece) {
+        w.append(data.slice(at..data.len().min(at + piece)));
         if u.flush {
             w.flush();
         }
