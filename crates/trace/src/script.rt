@@ -47,7 +47,7 @@ pub fn play(
     }
 }
 
-// The one function that has the session: the state, the next record's call, its answer.
+// The state, the next record's call, its answer.
 fn follow(
     input: &mut [u8],
     out: &mut [u8],
@@ -65,24 +65,7 @@ fn follow(
     let mut turns = u64::MAX;
     while turns > 0 {
         turns -= 1;
-        let phase = s.phase;
-        let offset = s.write_offset;
-        let sum = s.running_crc32c;
-        let w = s.worker;
-        n = state(
-            out,
-            n,
-            store,
-            table,
-            s.limit,
-            s.slots,
-            phase,
-            s.made,
-            offset,
-            sum,
-            s.held,
-            w,
-        );
+        n = state_of(out, n, store, table, s);
         let f = fetch(input, at, end);
         let r = f.record;
         at = r.next;
@@ -109,6 +92,29 @@ fn follow(
         n = answer(out, n, call, a, room);
     }
     over(out, Asks::Nothing, at, end, n)
+}
+
+// What a host sees of the session, and what else is in its record.
+fn state_of(out: &mut [u8], n: usize, store: &[u8], table: &[u64], s: Session) -> usize {
+    let v = lending::view(s);
+    let x = lending::spec(s);
+    let offset = s.write_offset;
+    let sum = s.running_crc32c;
+    let w = s.worker;
+    state(
+        out,
+        n,
+        store,
+        table,
+        v,
+        x,
+        s.limit,
+        s.slots,
+        s.made,
+        offset,
+        sum,
+        w,
+    )
 }
 
 fn open(input: &[u8], store: &mut [u8], table: &mut [u64], at: usize) -> Opened {

@@ -1,10 +1,11 @@
-// The whole state of a session, by its parts.
+// The whole state of a session: what the host's `view` and `spec` show, and the rest of the record.
 use crate::answers::checksum;
 use bidi_write::Cause;
 use bidi_write::Checksum;
 use bidi_write::Generation;
 use bidi_write::Offset;
 use replay_buffer::ReplayBuffer;
+use session::shown::View;
 use state::AppendObjectSpec;
 use state::Bucket;
 use state::Condition;
@@ -30,25 +31,32 @@ pub fn state(
     n: usize,
     store: &[u8],
     table: &[u64],
+    v: View,
+    x: AppendObjectSpec,
     limit: usize,
     slots: usize,
-    phase: Phase,
     made: u64,
     write_offset: Offset,
     running: Checksum,
-    held: usize,
     w: Worker,
 ) -> usize {
-    let persisted = w.persisted_size;
+    let phase = v.phase;
+    let persisted = v.persisted_size;
     let b = w.replay_buffer;
     let q = w.pending_requests;
     let c = w.connector;
     let last = c.last_persisted_size;
-    let x = c.spec;
-    let size = replay_buffer::ring_size(b.capacity, limit);
+    let size = replay_buffer::ring_size(v.capacity, limit);
     let n = name(out, n, phase, persisted);
-    let n = held_bytes(out, n, store, size, b, held);
-    let n = marks(out, n, b, w.self_flush_outstanding, w.finalized);
+    let n = held_bytes(out, n, store, size, b.head, v.stored, v.held);
+    let n = marks(
+        out,
+        n,
+        v.stored,
+        v.capacity,
+        w.self_flush_outstanding,
+        w.finalized,
+    );
     let n = counts(
         out,
         n,
@@ -86,10 +94,11 @@ fn held_bytes(
     n: usize,
     store: &[u8],
     size: usize,
-    b: ReplayBuffer,
+    head: usize,
+    stored: usize,
     count: usize,
 ) -> usize {
-    let from = on(b.head, b.unpersisted_bytes, size);
+    let from = on(head, stored, size);
     let n = text(out, n, b" held=");
     ring_bytes(out, n, store, size, from, count)
 }
@@ -116,9 +125,16 @@ fn ring_bytes(
     trace_text::hexes(out, n, part(store, 0, to - size))
 }
 
-fn marks(out: &mut [u8], n: usize, b: ReplayBuffer, mark: bool, finalized: bool) -> usize {
-    let n = trace_text::number_field(out, n, b" stored=", b.unpersisted_bytes as u64);
-    let n = trace_text::number_field(out, n, b" cap=", b.capacity as u64);
+fn marks(
+    out: &mut [u8],
+    n: usize,
+    stored: usize,
+    capacity: usize,
+    mark: bool,
+    finalized: bool,
+) -> usize {
+    let n = trace_text::number_field(out, n, b" stored=", stored as u64);
+    let n = trace_text::number_field(out, n, b" cap=", capacity as u64);
     let n = trace_text::flag_field(out, n, b" mark=", mark);
     trace_text::flag_field(out, n, b" fin=", finalized)
 }
