@@ -7,7 +7,7 @@ use lib.Dec.{eqb}
 use borrow.Author.Tests.{eqb-true, not-false}
 use Rattle.rules.specs.Message.{Bytes}
 use Rattle.rules.specs.Session.{PendingKind, Phase, live, closing, connecting, verdict, replay, ended, Session, Result, phaseNumber, isLive, isClosing, isReplay, closed}
-use Rattle.rules.specs.Server.{loses}
+use Rattle.rules.specs.Server.{loses, onLink}
 use Rattle.rules.specs.Notes.{accepted, requestIn, noteAppend, noteAsk, noteOther}
 use Rattle.rules.specs.World.{World, sending}
 use Rattle.rules.proofs.Tests.{never, or-no-right}
@@ -17,28 +17,28 @@ use Rattle.rules.proofs.Inv.{isRegressed, Inv}
 abbrev pub afterAppend : Bytes → Bool → World → Result → World
 afterAppend d could w r = record {
   session = r .session;
-  server = sending could (requestIn (r .answer)) (w .server);
+  server = onLink (sending could (requestIn (r .answer))) (w .server);
   notes = cond (accepted (r .answer)) (noteAppend d (r .answer) (w .notes)) (w .notes);
 }
 
 abbrev pub afterAsk : PendingKind → Bool → World → Result → World
 afterAsk k could w r = record {
   session = r .session;
-  server = sending could (requestIn (r .answer)) (w .server);
+  server = onLink (sending could (requestIn (r .answer))) (w .server);
   notes = cond (accepted (r .answer)) (noteAsk k (r .answer) (w .notes)) (w .notes);
 }
 
 abbrev pub afterOther : Bool → World → Result → World
 afterOther could w r = record {
   session = r .session;
-  server = sending could (requestIn (r .answer)) (w .server);
+  server = onLink (sending could (requestIn (r .answer))) (w .server);
   notes = cond (accepted (r .answer)) (noteOther (r .answer) (w .notes)) (w .notes);
 }
 
 abbrev pub afterUnsent : World → Result → World
 afterUnsent w r = record {
   session = r .session;
-  server = cond (accepted (r .answer)) (loses (w .server)) (w .server);
+  server = cond (accepted (r .answer)) (onLink loses (w .server)) (w .server);
   notes = cond (accepted (r .answer)) (noteOther (r .answer) (w .notes)) (w .notes);
 }
 

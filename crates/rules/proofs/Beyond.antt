@@ -41,4 +41,4 @@ holds-beyond w i = record {
 }
 
 pub beyond-demand3 : BeyondDemand3
-beyond-demand3 o s a object tail v es = holds-beyond (runs es (start o s object tail)) (runs-keep es (start o s object tail) (start-inv o s a object tail v))
+beyond-demand3 o s a k v es = holds-beyond (runs es (start o s k)) (runs-keep es (start o s k) (start-inv o s a k v))

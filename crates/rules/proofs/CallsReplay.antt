@@ -20,7 +20,7 @@ use Rattle.rules.specs.World.{World, calls}
 use Rattle.rules.proofs.Tests.{never}
 use Rattle.rules.proofs.Lists.{choose-ind, unless-ind, opt-ind, all-get, Part, parts, take-some, take-none, take-none-suc, chain-place}
 use Rattle.rules.proofs.Inv.{Right, Asked, Fit, goalAt, Inv}
-use Rattle.rules.proofs.Server.{right-bare, right-chunk, handed-none, handed-one, server-sends, sending-final}
+use Rattle.rules.proofs.Server.{right-bare, right-chunk, handed-none, handed-one, server-sends}
 use Rattle.rules.proofs.Flow.{fit-bare, fit-chunk, fit-asked, dataless-adds, flow-done, flow-sends}
 use Rattle.rules.proofs.Wait.{wait-phase, wait-final, wait-zero}
 use Rattle.rules.proofs.After.{Other}
@@ -56,7 +56,7 @@ module _ {from : ℕ} (could : Bool) (w : World) (i : Inv from w) (on : isReplay
       buffer = i .buffer;
       steady = refl;
       handed = handed-one r u (i .handed);
-      wait = wait-final (sending-final could (some r) (w .server)) (wait-zero (wait-phase lasts (i .wait)));
+      wait = wait-zero (wait-phase lasts (i .wait));
       replays = record {
         mid = λ _. ((i .replays .mid on) .0, ap (λ (b : Bytes). b ++ contentOf (r .checksummedData)) ((i .replays .mid on) .1) ∙ more);
         end = λ e. never (sym e);

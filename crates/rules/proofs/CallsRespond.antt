@@ -13,15 +13,15 @@ use Rattle.rules.specs.Message.{Bytes, Response, sizeOf}
 use Rattle.rules.specs.Session.{Connector, alreadyFinalized, replay, Session, handshake, Result, setConnector, setMark, setWorker, isReplay, isEnded, chunks, waiters, ending}
 use Rattle.rules.specs.Respond.{ack, satisfied, absorbs, takes, bareRequest, lastStep, responds, toReplay, shakes}
 use Rattle.rules.specs.Step.{step}
-use Rattle.rules.specs.Server.{setMessages, connects, Told, alone, inResource, says}
+use Rattle.rules.specs.Server.{setMessages, onLink, connects, Told, alone, inResource, says}
 use Rattle.rules.specs.Notes.{accepted, requestIn, largestOf, noteResponse, noteHandshake}
 use Rattle.rules.specs.World.{World, sending, calls, handsOn}
 use Rattle.rules.proofs.Tests.{never, and-right}
 use Rattle.rules.proofs.Lists.{cond-ind, choose-ind, unless-ind}
 use Rattle.rules.proofs.Inv.{AtLeast, least, Ascends, stockOf, BufferOK, WaitOK, ServerOK, FlowOK, HandedOK, isRegressed, Inv}
-use Rattle.rules.proofs.Server.{ascends-le, ascends-tail, right-bare, handed-none, handed-one, server-sends, server-messages, server-connects, sending-final, server-below, server-within}
+use Rattle.rules.proofs.Server.{ascends-le, ascends-tail, right-bare, handed-none, handed-one, server-sends, server-messages, server-connects, server-below, server-within}
 use Rattle.rules.proofs.Flow.{fit-bare, dataless-adds, goal-off, flow-off, flow-ended, flow-sends, flow-messages, flow-connects, flow-refused}
-use Rattle.rules.proofs.Wait.{wait-end, wait-phase, wait-final, wait-zero, wait-serves}
+use Rattle.rules.proofs.Wait.{wait-end, wait-phase, wait-zero, wait-serves}
 use Rattle.rules.proofs.Buffer.{buffer-acks, replay-off}
 use Rattle.rules.proofs.After.{open-not-replay}
 
@@ -31,7 +31,7 @@ use Rattle.rules.proofs.After.{open-not-replay}
 record Stated (from : ℕ) (o : Option ℤ) (kept rest : List Response) (could keep : Bool) (w : World) (r : Result) : Type 0 where
   inv : Inv from (record {
     session = r .session;
-    server = sending could (requestIn (r .answer)) (setMessages (cond (keep && not (accepted (r .answer))) kept rest) (w .server));
+    server = onLink (sending could (requestIn (r .answer))) (onLink (setMessages (cond (keep && not (accepted (r .answer))) kept rest)) (w .server));
     notes = cond (accepted (r .answer)) (noteResponse o (r .answer) (w .notes)) (w .notes);
   })
 
@@ -56,7 +56,7 @@ unfolding takes
 takes-ind Q n f s last l a b = choose-ind Q _ _ _ (λ e. absurd (l e)) (λ _. choose-ind Q _ _ _ (λ _. a) (λ _. b))
 
 -- for a message and a handshake alike: the size n, in a finalised statement or not
-module _ {from : ℕ} (w : World) (i : Inv from w) (n : ℕ) (f : Bool) (up : i .p ≤ n) (within : n ≤ length (i .K)) (true-final : f ≡ true → w .server .finalised ≡ true) where
+module _ {from : ℕ} (w : World) (i : Inv from w) (n : ℕ) (f : Bool) (up : i .p ≤ n) (within : n ≤ length (i .K)) (true-final : f ≡ true → w .server .stored .finalised ≡ true) where
   not-below : ltZ (pos n) (w .session .worker .persistedSize) ≡ true → ⊥
   not-below e = omega (arith, ltb-true n (i .p) (subst (λ (z : ℤ). ltZ (pos n) z ≡ true) (i .buffer .p-is) e))
 
@@ -64,10 +64,10 @@ module _ {from : ℕ} (w : World) (i : Inv from w) (n : ℕ) (f : Bool) (up : i 
   since-is = omega (arith, i .since)
 
   wait-is : WaitOK (i .K) n (w .session .held) ((absorbs (pos n) f (w .session .worker)) .pendingRequests) (w .session .worker .finalized) (isEnded (w .session .phase))
-      (w .notes .marks) (w .notes .completed + satisfied (pos n) f (waiters (w .session))) (w .server .finalised)
+      (w .notes .marks) (w .notes .completed + satisfied (pos n) f (waiters (w .session))) (w .server .stored .finalised)
   wait-is = wait-serves n f up true-final (i .wait)
 
-  greet-keeps : (c : Connector) → n ≡ length (w .server .object) → isEnded (w .session .phase) ≡ false
+  greet-keeps : (c : Connector) → n ≡ length (w .server .stored .object) → isEnded (w .session .phase) ≡ false
       → Greeted from (some (pos n)) w (takes (some (pos n)) f (updatedTo c (w .session)) toReplay)
   unfolding ending toReplay
   greet-keeps c size e =
@@ -106,21 +106,21 @@ module _ {from : ℕ} (w : World) (i : Inv from w) (n : ℕ) (f : Bool) (up : i 
 
 -- ---- a handshake
 
-shake-keeps : {from : ℕ} (w : World) (i : Inv from w) (f : Bool) (c : Connector) → (f ≡ true → w .server .finalised ≡ true) → isEnded (w .session .phase) ≡ false
-    → Greeted from (some (pos (length (w .server .object)))) w
-    (takes (some (pos (length (w .server .object)))) f (updatedTo c (w .session)) toReplay)
-shake-keeps w i f c t e = greet-keeps w i (length (w .server .object)) f (server-below (i .server)) (server-within (i .server)) t c refl e
+shake-keeps : {from : ℕ} (w : World) (i : Inv from w) (f : Bool) (c : Connector) → (f ≡ true → w .server .stored .finalised ≡ true) → isEnded (w .session .phase) ≡ false
+    → Greeted from (some (pos (length (w .server .stored .object)))) w
+    (takes (some (pos (length (w .server .stored .object)))) f (updatedTo c (w .session)) toReplay)
+shake-keeps w i f c t e = greet-keeps w i (length (w .server .stored .object)) f (server-below (i .server)) (server-within (i .server)) t c refl e
 
-pub handshake-keeps : {from : ℕ} (t : Told) (handle : Option Bytes) (could : Bool) (w : World) → Inv from w → Inv from (calls (handshake (says (some t) handle (w .server))) could w)
+pub handshake-keeps : {from : ℕ} (t : Told) (handle : Option Bytes) (could : Bool) (w : World) → Inv from w → Inv from (calls (handshake (says (some t) handle (w .server .stored))) could w)
 unfolding step shakes
 handshake-keeps {from} alone handle could w i =
-    let k : Greeted from (some (pos (length (w .server .object)))) w (shakes (says (some alone) handle (w .server)) (w .session))
-    = unless-ind (Greeted from (some (pos (length (w .server .object)))) w) (w .session) _ _ (λ n. record { inv = i }) (λ h. shake-keeps w i _ _ (λ e. never (sym e)) (h .0)) in
+    let k : Greeted from (some (pos (length (w .server .stored .object)))) w (shakes (says (some alone) handle (w .server .stored)) (w .session))
+    = unless-ind (Greeted from (some (pos (length (w .server .stored .object)))) w) (w .session) _ _ (λ n. record { inv = i }) (λ h. shake-keeps w i _ _ (λ e. never (sym e)) (h .0)) in
     k .inv
 handshake-keeps {from} (inResource g marked) handle could w i =
-    let k : Greeted from (some (pos (length (w .server .object)))) w (shakes (says (some (inResource g marked)) handle (w .server)) (w .session))
-    = unless-ind (Greeted from (some (pos (length (w .server .object)))) w) (w .session) _ _ (λ n. record { inv = i })
-    (λ h. shake-keeps w i _ _ (and-right marked (w .server .finalised)) (h .0)) in
+    let k : Greeted from (some (pos (length (w .server .stored .object)))) w (shakes (says (some (inResource g marked)) handle (w .server .stored)) (w .session))
+    = unless-ind (Greeted from (some (pos (length (w .server .stored .object)))) w) (w .session) _ _ (λ n. record { inv = i })
+    (λ h. shake-keeps w i _ _ (and-right marked (w .server .stored .finalised)) (h .0)) in
     k .inv
 
 -- ---- a message
@@ -134,9 +134,9 @@ module _ {from : ℕ} (kept rest : List Response) (could keep : Bool) (w : World
   -- the last step of a response: a bare flush or not
   last-keeps : (o : Option ℤ) (k : ℕ) (s : Session) (K : Bytes) (p : ℕ) → from ≤ p
       → BufferOK K p (stockOf s) (record { limit = w .notes .limit; all = w .notes .all; loose = w .notes .loose; largest = largestOf (w .notes .largest) o })
-      → WaitOK K p (s .held) (waiters s) (s .worker .finalized) (isEnded (s .phase)) (w .notes .marks) (w .notes .completed + k) (w .server .finalised)
-      → ServerOK K p (s .worker .finalized) (setMessages (cond (keep && false) kept rest) (w .server))
-      → FlowOK K p (s .phase) (chunks s) (setMessages (cond (keep && false) kept rest) (w .server))
+      → WaitOK K p (s .held) (waiters s) (s .worker .finalized) (isEnded (s .phase)) (w .notes .marks) (w .notes .completed + k) (w .server .stored .finalised)
+      → ServerOK K p (s .worker .finalized) (onLink (setMessages (cond (keep && false) kept rest)) (w .server))
+      → FlowOK K p (s .phase) (chunks s) (onLink (setMessages (cond (keep && false) kept rest)) (w .server))
       → HandedOK K (s .worker .finalized) (w .notes .handed)
       → isReplay (s .phase) ≡ false → isEnded (s .phase) ≡ false → isRegressed (s .phase) ≡ false
       → Stated from o kept rest could keep w (lastStep k s)
@@ -151,7 +151,7 @@ module _ {from : ℕ} (kept rest : List Response) (could keep : Bool) (w : World
           buffer = b;
           steady = st;
           replays = replay-off r;
-          wait = wait-final (sending-final could (some (bareRequest s)) _) q;
+          wait = q;
           server = server-sends could (some (bareRequest s)) (right-bare (bareRequest s) refl refl) v;
           flow = flow-sends could (bareRequest s) K e (goal-off p (chunks s) (s .phase) r) (fit-bare (bareRequest s) refl refl)
               (dataless-adds K none refl ∙ sym (goal-off p (chunks s) (s .phase) r)) fl;
@@ -174,7 +174,7 @@ module _ {from : ℕ} (kept rest : List Response) (could keep : Bool) (w : World
       })
 
   -- no size
-  silent-keeps : (i : Inv from w) (f : Bool) (c : Connector) → Ascends (i .p) rest (length (w .server .object)) (w .server .finalised)
+  silent-keeps : (i : Inv from w) (f : Bool) (c : Connector) → Ascends (i .p) rest (length (w .server .stored .object)) (w .server .stored .finalised)
       → isReplay (w .session .phase) ≡ false → isEnded (w .session .phase) ≡ false → Stated from none kept rest could keep w (takes none f (updatedTo c (w .session)) lastStep)
   unfolding takes
   silent-keeps i f c h r e =
@@ -182,8 +182,8 @@ module _ {from : ℕ} (kept rest : List Response) (could keep : Bool) (w : World
       (i .handed) r e (i .steady)
 
   -- a size
-  size-keeps : (i : Inv from w) (n : ℕ) (f : Bool) (c : Connector) → i .p ≤ n → (f ≡ true → w .server .finalised ≡ true)
-      → Ascends n rest (length (w .server .object)) (w .server .finalised) → isReplay (w .session .phase) ≡ false → isEnded (w .session .phase) ≡ false
+  size-keeps : (i : Inv from w) (n : ℕ) (f : Bool) (c : Connector) → i .p ≤ n → (f ≡ true → w .server .stored .finalised ≡ true)
+      → Ascends n rest (length (w .server .stored .object)) (w .server .stored .finalised) → isReplay (w .session .phase) ≡ false → isEnded (w .session .phase) ≡ false
       → Stated from (some (pos n)) kept rest could keep w (takes (some (pos n)) f (updatedTo c (w .session)) lastStep)
   unfolding ending
   size-keeps i n f c l t h r e =
@@ -206,20 +206,20 @@ module _ {from : ℕ} (kept rest : List Response) (could keep : Bool) (w : World
       (buffer-acks n l within (i .buffer)) (wait-is w i n f l within t) server-is (flow-off e r r (flow-messages _ (i .flow))) (i .handed) r e (i .steady))
     where
       within : n ≤ length (i .K)
-      within = omega (arith, ascends-le rest n (length (w .server .object)) (w .server .finalised) h, server-within (i .server))
+      within = omega (arith, ascends-le rest n (length (w .server .stored .object)) (w .server .stored .finalised) h, server-within (i .server))
 
-      server-is : ServerOK (i .K) n (w .session .worker .finalized) (setMessages (cond (keep && false) kept rest) (w .server))
+      server-is : ServerOK (i .K) n (w .session .worker .finalized) (onLink (setMessages (cond (keep && false) kept rest)) (w .server))
       server-is = server-messages _ (left n kept rest keep _ _ h) (i .server)
 
-  stated-keeps : (i : Inv from w) (o : Option ℤ) (f : Bool) (c : Connector) → AtLeast (i .p) o → (f ≡ true → w .server .finalised ≡ true)
-      → Ascends (least (i .p) o) rest (length (w .server .object)) (w .server .finalised) → isReplay (w .session .phase) ≡ false → isEnded (w .session .phase) ≡ false
+  stated-keeps : (i : Inv from w) (o : Option ℤ) (f : Bool) (c : Connector) → AtLeast (i .p) o → (f ≡ true → w .server .stored .finalised ≡ true)
+      → Ascends (least (i .p) o) rest (length (w .server .stored .object)) (w .server .stored .finalised) → isReplay (w .session .phase) ≡ false → isEnded (w .session .phase) ≡ false
       → Stated from o kept rest could keep w (takes o f (updatedTo c (w .session)) lastStep)
   stated-keeps i none f c l t h r e = silent-keeps i f c h r e
   stated-keeps i (some (pos n)) f c l t h r e = size-keeps i n f c l t h r e
   stated-keeps i (some (negsuc n)) f c l t h r e = absurd l
 
 -- the host hands on the next message
-pub hands-keeps : {from : ℕ} (ms : List Response) (could keep : Bool) (w : World) (i : Inv from w) → Ascends (i .p) ms (length (w .server .object)) (w .server .finalised)
+pub hands-keeps : {from : ℕ} (ms : List Response) (could keep : Bool) (w : World) (i : Inv from w) → Ascends (i .p) ms (length (w .server .stored .object)) (w .server .stored .finalised)
     → Inv from (handsOn ms could keep w)
 unfolding step responds
 hands-keeps [] could keep w i h = i
@@ -229,10 +229,10 @@ hands-keeps {from} (m ∷ rest) could keep w i h =
     (λ t. stated-keeps (m ∷ rest) rest could keep w i (sizeOf (m .writeStatus)) _ _ (h .0) (h .1) (h .2) (open-not-replay (w .session .phase) (t .1 .0)) (t .0)) in
     k .inv
   where
-    low : Ascends (i .p) (cond (keep && true) (m ∷ rest) rest) (length (w .server .object)) (w .server .finalised)
-    low = cond-ind (λ (ms : List Response). Ascends (i .p) ms (length (w .server .object)) (w .server .finalised)) (keep && true) (λ _. h) (λ _. ascends-tail m rest (i .p) _ _ h)
+    low : Ascends (i .p) (cond (keep && true) (m ∷ rest) rest) (length (w .server .stored .object)) (w .server .stored .finalised)
+    low = cond-ind (λ (ms : List Response). Ascends (i .p) ms (length (w .server .stored .object)) (w .server .stored .finalised)) (keep && true) (λ _. h) (λ _. ascends-tail m rest (i .p) _ _ h)
 
-    refused : Inv from (record { session = w .session; server = setMessages (cond (keep && true) (m ∷ rest) rest) (w .server); notes = w .notes })
+    refused : Inv from (record { session = w .session; server = onLink (setMessages (cond (keep && true) (m ∷ rest) rest)) (w .server); notes = w .notes })
     refused = record {
       K = i .K;
       p = i .p;

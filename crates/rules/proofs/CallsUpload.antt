@@ -14,14 +14,15 @@ use Rattle.rules.specs.Message.{Bytes, Request}
 use Rattle.rules.specs.Session.{PendingKind, flushing, finalizing, Session, append, flush, finalise, took, waits, answers, isReplay, isEnded, chunks}
 use Rattle.rules.specs.Upload.{chunkOf, cutRequest, cuts, room, holding, holds, appends, requestFor, isFinalizing, waiterOf, awaits, asks}
 use Rattle.rules.specs.Step.{step}
+use Rattle.rules.specs.Server.{onLink}
 use Rattle.rules.specs.Notes.{Mark, Notes, taken, looseAfter, contentOf}
 use Rattle.rules.specs.World.{World, sending, calls}
 use Rattle.rules.proofs.Tests.{and-no, or-left}
 use Rattle.rules.proofs.Lists.{choose-ind, unless-ind, nil-of, Part}
 use Rattle.rules.proofs.Inv.{Right, Asked, BufferOK, WaitOK, stockOf, tallyOf, Inv}
-use Rattle.rules.proofs.Server.{right-chunk, handed-none, handed-one, handed-grow, handed-sent, server-grow, server-sent, server-sends, sending-final}
+use Rattle.rules.proofs.Server.{right-chunk, handed-none, handed-one, handed-grow, handed-sent, server-grow, server-sent, server-sends}
 use Rattle.rules.proofs.Flow.{fit-chunk, fit-asked, dataless-adds, goal-off, flow-sends}
-use Rattle.rules.proofs.Wait.{wait-final, wait-holds, wait-cuts, wait-new, wait-zero, asked-new, request-at}
+use Rattle.rules.proofs.Wait.{wait-holds, wait-cuts, wait-new, wait-zero, asked-new, request-at}
 use Rattle.rules.proofs.Buffer.{buffer-cuts, buffer-holds, replay-off, replay-on}
 use Rattle.rules.proofs.After.{Appended, AskedFor, not-at, not-sent}
 
@@ -46,7 +47,7 @@ cut-keeps : {from : ℕ} (could : Bool) (w : World) (i : Inv from w) (x all : By
     → all ≡ i .K ++ x → loose ≡ 0 → marks ≡ w .notes .marks
     → Inv from (record {
       session = cuts x (w .session);
-      server = sending could (some (cutRequest x (w .session))) (w .server);
+      server = onLink (sending could (some (cutRequest x (w .session)))) (w .server);
       notes = cutNotes all loose marks (cutRequest x (w .session)) (w .notes);
     })
 cut-keeps {from} could w i x all loose marks f e o a l m = record {
@@ -55,8 +56,8 @@ cut-keeps {from} could w i x all loose marks f e o a l m = record {
   since = i .since;
   steady = i .steady;
   buffer = buffer-cuts x all loose a l (i .buffer);
-  wait = subst (λ (y : List Mark). WaitOK (K ++ x) (i .p) [] (s .worker .pendingRequests) (s .worker .finalized) (isEnded (s .phase)) y (w .notes .completed + 0) ((sending could (some r) (w .server)) .finalised))
-      (sym m) (wait-final (sending-final could (some r) (w .server)) (wait-zero (wait-cuts x f (i .wait))));
+  wait = subst (λ (y : List Mark). WaitOK (K ++ x) (i .p) [] (s .worker .pendingRequests) (s .worker .finalized) (isEnded (s .phase)) y (w .notes .completed + 0) (w .server .stored .finalised))
+      (sym m) (wait-zero (wait-cuts x f (i .wait)));
   replays = replay-off o;
   server = server-sends could (some r) right (server-grow x f (i .server));
   flow = flow-sends could r K e (goal-off (i .p) (chunks s) (s .phase) o) (fit-chunk (chunkOf x s) _ (i .buffer .offset-is) refl)
@@ -114,8 +115,7 @@ asks-keeps {from} k out could w i =
             since = i .since;
             steady = i .steady;
             buffer = buffer-holds (s .held) (w .notes .all) 0 (i .buffer .all-is) (sym (ap length n)) (i .buffer .small) (i .buffer);
-            wait = wait-final (sending-final could (some (requestFor k s)) (w .server))
-                (wait-new (waiterOf k s) m e n (request-at k s ∙ i .buffer .offset-is ∙ ap pos (sym l)) refl l a (wait-zero (i .wait)));
+            wait = wait-new (waiterOf k s) m e n (request-at k s ∙ i .buffer .offset-is ∙ ap pos (sym l)) refl l a (wait-zero (i .wait));
             replays = replay-off o;
             server = server-sends could (some (requestFor k s)) (a .right) (server-sent sent (i .server));
             flow = flow-sends could (requestFor k s) (i .K) e (goal-off (i .p) (chunks s) (s .phase) o) (fit-asked (waiterOf k s) a)

@@ -20,17 +20,17 @@ use Rattle.rules.proofs.Start.{start-inv}
 
 -- a waiter reported completed
 pub completed-mark : {from : ℕ} {w : World} (i : Inv from w) (n : ℕ) (m : Mark) → n < w .notes .completed → getElem? (w .notes .marks) n ≡ some m
-    → Completed (i .p) (w .server .finalised) m
+    → Completed (i .p) (w .server .stored .finalised) m
 completed-mark {w} i n m l e =
     let k : n < length (i .wait .gone) = subst (λ (x : ℕ). n < x) (i .wait .count-is) l in
-    all-get (Completed (i .p) (w .server .finalised)) (i .wait .gone) n m (i .wait .gone-ok)
+    all-get (Completed (i .p) (w .server .stored .finalised)) (i .wait .gone) n m (i .wait .gone-ok)
     (sym (get-front (i .wait .gone) (i .wait .todo ++ i .wait .lost) n k) ∙ ap (λ (x : List Mark). getElem? x n) (sym (i .wait .marks-is)) ∙ e)
 
-object-first : {from : ℕ} {w : World} (i : Inv from w) → w .server .object ++ (w .server .tail ++ i .server .rest ++ w .session .held) ≡ w .notes .all
+object-first : {from : ℕ} {w : World} (i : Inv from w) → w .server .stored .object ++ (w .server .stored .tail ++ i .server .rest ++ w .session .held) ≡ w .notes .all
 object-first {w} i =
-    ap (λ (r : Bytes). w .server .object ++ r) (append-assoc (w .server .tail) (i .server .rest) (w .session .held))
-    ∙ sym (append-assoc (w .server .object) (w .server .tail) (i .server .rest ++ w .session .held))
-    ∙ sym (append-assoc (w .server .object ++ w .server .tail) (i .server .rest) (w .session .held))
+    ap (λ (r : Bytes). w .server .stored .object ++ r) (append-assoc (w .server .stored .tail) (i .server .rest) (w .session .held))
+    ∙ sym (append-assoc (w .server .stored .object) (w .server .stored .tail) (i .server .rest ++ w .session .held))
+    ∙ sym (append-assoc (w .server .stored .object ++ w .server .stored .tail) (i .server .rest) (w .session .held))
     ∙ ap (λ (r : Bytes). r ++ w .session .held) (i .server .begins) ∙ sym (i .buffer .all-is)
 
 -- once finalise was sent, W is the chunked bytes
@@ -39,7 +39,7 @@ all-chunked i e = i .buffer .all-is ∙ ap (λ (r : Bytes). i .K ++ r) (i .wait 
 
 pub holds : {from : ℕ} (w : World) → Inv from w → Holds w
 holds w i = record {
-  begins = (w .server .tail ++ i .server .rest ++ w .session .held, object-first i);
+  begins = (w .server .stored .tail ++ i .server .rest ++ w .session .held, object-first i);
   counted = counted;
   waited = waited;
   kept = kept;
@@ -55,8 +55,8 @@ holds w i = record {
 
     waited : (n : ℕ) (m : Mark) → n < w .notes .completed → getElem? (w .notes .marks) n ≡ some m → Persisted m w
     waited n m l e =
-        let t : m .before ≤ length (w .server .object) = omega (arith, (completed-mark i n m l e) .below, server-below (i .server)) in
-        record { there = t; same = sym (take-append-le (m .before) (w .server .object) _ t) ∙ ap (take (m .before)) (object-first i) }
+        let t : m .before ≤ length (w .server .stored .object) = omega (arith, (completed-mark i n m l e) .below, server-below (i .server)) in
+        record { there = t; same = sym (take-append-le (m .before) (w .server .stored .object) _ t) ∙ ap (take (m .before)) (object-first i) }
 
     kept : Kept w
     kept = record {
@@ -75,15 +75,15 @@ holds w i = record {
     replayed : w .notes .atDone ≡ true → Replayed w
     replayed d = record { size = i .p; greeted = (i .replays .end d) .0; carried = (i .replays .end d) .1 ∙ ap (drop (i .p)) (sym chunked) }
 
-    finalised : (n : ℕ) (m : Mark) → n < w .notes .completed → getElem? (w .notes .marks) n ≡ some m → m .kind ≡ finalizing → w .server .object ≡ w .notes .all
+    finalised : (n : ℕ) (m : Mark) → n < w .notes .completed → getElem? (w .notes .marks) n ≡ some m → m .kind ≡ finalizing → w .server .stored .object ≡ w .notes .all
     finalised n m l e k =
         let f : (w .session .worker .finalized ≡ true) × (m .before ≡ length (i .K))
         = all-get (Final (w .session .worker .finalized) (length (i .K))) (w .notes .marks) n m (i .wait .finals) e k in
-        let s : length (w .server .object) ≡ length (i .K)
+        let s : length (w .server .stored .object) ≡ length (i .K)
         = omega (arith, (completed-mark i n m l e) .below, server-below (i .server), f .1, server-within (i .server)) in
-        split-left (w .server .object) (i .K) (w .server .tail ++ i .server .rest) []
-        (sym (append-assoc (w .server .object) (w .server .tail) (i .server .rest)) ∙ i .server .begins ∙ sym (append-nil (i .K))) s
+        split-left (w .server .stored .object) (i .K) (w .server .stored .tail ++ i .server .rest) []
+        (sym (append-assoc (w .server .stored .object) (w .server .stored .tail) (i .server .rest)) ∙ i .server .begins ∙ sym (append-nil (i .K))) s
         ∙ sym (all-chunked i (f .0))
 
 pub demand3 : Demand3
-demand3 o s a object tail v es = holds (runs es (start o s object tail)) (runs-keep es (start o s object tail) (start-inv o s a object tail v))
+demand3 o s a k v es = holds (runs es (start o s k)) (runs-keep es (start o s k) (start-inv o s a k v))

@@ -13,7 +13,7 @@ use Rattle.crc32c.specs.Reg.{crcOf}
 use Rattle.rules.specs.Message.{Bytes, ChecksummedData, Request, Response}
 use Rattle.rules.specs.Session.{ReplayChunk, PendingRequest, Cause, Phase, live, closing, connecting, verdict, replay, ended, isEnded, isReplay}
 use Rattle.rules.specs.Upload.{chunkRequest}
-use Rattle.rules.specs.Server.{Server, setRequests, setMessages, loses, connects, isAt, isSum, takesChunk, takesFinish, takesOne, takesNext, persists}
+use Rattle.rules.specs.Server.{Server, setRequests, setMessages, loses, onLink, onStored, connects, isAt, isSum, takesChunk, takesFinish, takesOne, takesNext, persists}
 use Rattle.rules.specs.Notes.{contentOf}
 use Rattle.rules.specs.World.{sending}
 use Rattle.rules.specs.Beyond.{RightFinish}
@@ -82,7 +82,7 @@ flow-ended = flow-turn (λ e. never e)
 -- a request is handed out, where the session had come to b
 pub flow-sends : {K K′ : Bytes} {p p′ : ℕ} {ph ph′ : Phase} {cs cs′ : List ReplayChunk} {v : Server} (could : Bool) (r : Request) (b : Bytes)
     → isEnded ph ≡ false → goalAt K p ph cs ≡ b → Fit b r → b ++ contentOf (r .checksummedData) ≡ goalAt K′ p′ ph′ cs′
-    → FlowOK K p ph cs v → FlowOK K′ p′ ph′ cs′ (sending could (some r) v)
+    → FlowOK K p ph cs v → FlowOK K′ p′ ph′ cs′ (onLink (sending could (some r)) v)
 flow-sends {v} true r b e g f n h = record {
   flows = λ l.
       let k = h .flows l in
@@ -90,18 +90,18 @@ flow-sends {v} true r b e g f n h = record {
         alive = k .alive;
         goal = b ++ contentOf (r .checksummedData);
         goal-is = λ _. n;
-        fits = subst (λ (t : Bool). Fits (v .object ++ v .tail) (cond t (v .requests ++ (r ∷ [])) (v .requests)) (b ++ contentOf (r .checksummedData))) (sym (k .alive))
-            (fits-snoc (v .requests) (v .object ++ v .tail) b r (subst (Fits (v .object ++ v .tail) (v .requests)) (k .goal-is e ∙ g) (k .fits)) f);
+        fits = subst (λ (t : Bool). Fits (v .stored .object ++ v .stored .tail) (cond t (v .link .requests ++ (r ∷ [])) (v .link .requests)) (b ++ contentOf (r .checksummedData))) (sym (k .alive))
+            (fits-snoc (v .link .requests) (v .stored .object ++ v .stored .tail) b r (subst (Fits (v .stored .object ++ v .stored .tail) (v .link .requests)) (k .goal-is e ∙ g) (k .fits)) f);
       };
 }
 flow-sends false r b e g f n h = record { flows = λ l. never (sym l) }
 
 -- ---- the connection
 
-pub flow-loses : {K : Bytes} {p : ℕ} {ph : Phase} {cs : List ReplayChunk} (v : Server) → FlowOK K p ph cs (loses v)
+pub flow-loses : {K : Bytes} {p : ℕ} {ph : Phase} {cs : List ReplayChunk} (v : Server) → FlowOK K p ph cs (onLink loses v)
 flow-loses v = record { flows = λ l. never (sym l) }
 
-pub flow-messages : {K : Bytes} {p : ℕ} {ph : Phase} {cs : List ReplayChunk} {v : Server} (ms : List Response) → FlowOK K p ph cs v → FlowOK K p ph cs (setMessages ms v)
+pub flow-messages : {K : Bytes} {p : ℕ} {ph : Phase} {cs : List ReplayChunk} {v : Server} (ms : List Response) → FlowOK K p ph cs v → FlowOK K p ph cs (onLink (setMessages ms) v)
 flow-messages ms h = record {
   flows = λ l. record {
     alive = (h .flows l) .alive;
@@ -112,22 +112,22 @@ flow-messages ms h = record {
 }
 
 -- an accepted handshake: the server has the object alone
-connected : {K : Bytes} {p : ℕ} {ph : Phase} {cs : List ReplayChunk} (v : Server) → (isEnded ph ≡ false → v .object ≡ goalAt K p ph cs) → FlowOK K p ph cs (connects v)
-connected v g = record { flows = λ l. record { alive = refl; goal = v .object; fits = append-nil (v .object); goal-is = g } }
+connected : {K : Bytes} {p : ℕ} {ph : Phase} {cs : List ReplayChunk} (v : Server) → (isEnded ph ≡ false → v .stored .object ≡ goalAt K p ph cs) → FlowOK K p ph cs (connects v)
+connected v g = record { flows = λ l. record { alive = refl; goal = v .stored .object; fits = append-nil (v .stored .object); goal-is = g } }
 
-pub flow-connects : {K : Bytes} {p : ℕ} {sent : Bool} {v : Server} {cs : List ReplayChunk} → ServerOK K p sent v → FlowOK K (length (v .object)) (replay 0) cs (connects v)
+pub flow-connects : {K : Bytes} {p : ℕ} {sent : Bool} {v : Server} {cs : List ReplayChunk} → ServerOK K p sent v → FlowOK K (length (v .stored .object)) (replay 0) cs (connects v)
 flow-connects {K} {v} s =
-    let e : v .object ≡ take (length (v .object)) K
-    = sym (take-at (v .object) (v .tail ++ s .rest) (length (v .object)) refl)
-    ∙ ap (take (length (v .object))) (sym (append-assoc (v .object) (v .tail) (s .rest)) ∙ s .begins) in
-    connected v (λ _. e ∙ sym (append-nil (take (length (v .object)) K)))
+    let e : v .stored .object ≡ take (length (v .stored .object)) K
+    = sym (take-at (v .stored .object) (v .stored .tail ++ s .rest) (length (v .stored .object)) refl)
+    ∙ ap (take (length (v .stored .object))) (sym (append-assoc (v .stored .object) (v .stored .tail) (s .rest)) ∙ s .begins) in
+    connected v (λ _. e ∙ sym (append-nil (take (length (v .stored .object)) K)))
 
 pub flow-refused : {K : Bytes} {p : ℕ} {cs : List ReplayChunk} {c : Cause} (v : Server) → FlowOK K p (ended c) cs (connects v)
 flow-refused v = connected v (λ e. never e)
 
 -- ---- what the server does
 
-pub flow-persists : {K : Bytes} {p : ℕ} {ph : Phase} {cs : List ReplayChunk} {v : Server} (n : ℕ) → FlowOK K p ph cs v → FlowOK K p ph cs (persists n v)
+pub flow-persists : {K : Bytes} {p : ℕ} {ph : Phase} {cs : List ReplayChunk} {v : Server} (n : ℕ) → FlowOK K p ph cs v → FlowOK K p ph cs (onStored (persists n) v)
 flow-persists {v} n h = record {
   flows = λ l.
       let k = h .flows l in
@@ -135,8 +135,8 @@ flow-persists {v} n h = record {
         alive = k .alive;
         goal = k .goal;
         goal-is = k .goal-is;
-        fits = subst (λ (b : Bytes). Fits b (v .requests) (k .goal))
-            (sym (append-assoc (v .object) (take n (v .tail)) (drop n (v .tail)) ∙ ap (λ (b : Bytes). v .object ++ b) (take-append-drop n (v .tail)))) (k .fits);
+        fits = subst (λ (b : Bytes). Fits b (v .link .requests) (k .goal))
+            (sym (append-assoc (v .stored .object) (take n (v .stored .tail)) (drop n (v .stored .tail)) ∙ ap (λ (b : Bytes). v .stored .object ++ b) (take-append-drop n (v .stored .tail)))) (k .fits);
       };
 }
 
@@ -149,43 +149,43 @@ is-sum (some c) b h = eq-eqb c (crcOf b) (h c refl)
 
 module _ {K : Bytes} {p : ℕ} {ph : Phase} {cs : List ReplayChunk} where
   flow-chunk : (r : Request) (d : ChecksummedData) (rest : List Request) (bytes had : ℕ) (v : Server) → r .checksummedData ≡ some d
-      → FlowOK K p ph cs (setRequests (r ∷ rest) v) → FlowOK K p ph cs (takesChunk (r .writeOffset) d bytes had (setRequests rest v))
+      → FlowOK K p ph cs (onLink (setRequests (r ∷ rest)) v) → FlowOK K p ph cs (takesChunk (r .writeOffset) d bytes had (onLink (setRequests rest) v))
   flow-chunk r d rest bytes had v e h =
-      cond-ind (FlowOK K p ph cs) (isAt (r .writeOffset) (v .object ++ v .tail) && eqb (d .crc32c) (crcOf (d .content)))
+      cond-ind (FlowOK K p ph cs) (isAt (r .writeOffset) (v .stored .object ++ v .stored .tail) && eqb (d .crc32c) (crcOf (d .content)))
       (λ t. record {
         flows = λ l. record {
           alive = (h .flows l) .alive;
           goal = (h .flows l) .goal;
           goal-is = (h .flows l) .goal-is;
           fits = subst (λ (b : Bytes). Fits b rest ((h .flows l) .goal))
-              (ap (λ (o : Option ChecksummedData). v .object ++ v .tail ++ contentOf o) e ∙ append-assoc (v .object) (v .tail) (d .content)) ((h .flows l) .fits .1);
+              (ap (λ (o : Option ChecksummedData). v .stored .object ++ v .stored .tail ++ contentOf o) e ∙ append-assoc (v .stored .object) (v .stored .tail) (d .content)) ((h .flows l) .fits .1);
         };
       })
       (λ t. record { flows = λ l. clash (right ((h .flows l) .fits .0)) t })
     where
-      right : Fit (v .object ++ v .tail) r → (isAt (r .writeOffset) (v .object ++ v .tail) && eqb (d .crc32c) (crcOf (d .content))) ≡ true
-      right f = and-true _ _ (is-at (r .writeOffset) (v .object ++ v .tail) ((f .chunk d e) .0)) (eq-eqb (d .crc32c) (crcOf (d .content)) ((f .chunk d e) .1))
+      right : Fit (v .stored .object ++ v .stored .tail) r → (isAt (r .writeOffset) (v .stored .object ++ v .stored .tail) && eqb (d .crc32c) (crcOf (d .content))) ≡ true
+      right f = and-true _ _ (is-at (r .writeOffset) (v .stored .object ++ v .stored .tail) ((f .chunk d e) .0)) (eq-eqb (d .crc32c) (crcOf (d .content)) ((f .chunk d e) .1))
 
   flow-finish : (r : Request) (rest : List Request) (bytes had : ℕ) (v : Server) → r .checksummedData ≡ none → r .finishWrite ≡ true
-      → FlowOK K p ph cs (setRequests (r ∷ rest) v) → FlowOK K p ph cs (takesFinish (r .writeOffset) (r .objectChecksum) bytes had (setRequests rest v))
+      → FlowOK K p ph cs (onLink (setRequests (r ∷ rest)) v) → FlowOK K p ph cs (takesFinish (r .writeOffset) (r .objectChecksum) bytes had (onLink (setRequests rest) v))
   flow-finish r rest bytes had v e f h =
-      cond-ind (FlowOK K p ph cs) (isAt (r .writeOffset) (v .object ++ v .tail) && isSum (r .objectChecksum) (v .object ++ v .tail))
+      cond-ind (FlowOK K p ph cs) (isAt (r .writeOffset) (v .stored .object ++ v .stored .tail) && isSum (r .objectChecksum) (v .stored .object ++ v .stored .tail))
       (λ t. record {
         flows = λ l. record {
           alive = (h .flows l) .alive;
           goal = (h .flows l) .goal;
           goal-is = (h .flows l) .goal-is;
           fits = subst (λ (b : Bytes). Fits b rest ((h .flows l) .goal))
-              (dataless-adds (v .object ++ v .tail) (r .checksummedData) e ∙ sym (append-nil (v .object ++ v .tail))) ((h .flows l) .fits .1);
+              (dataless-adds (v .stored .object ++ v .stored .tail) (r .checksummedData) e ∙ sym (append-nil (v .stored .object ++ v .stored .tail))) ((h .flows l) .fits .1);
         };
       })
       (λ t. record { flows = λ l. clash (right ((h .flows l) .fits .0 .finish f)) t })
     where
-      right : RightFinish (v .object ++ v .tail) r → (isAt (r .writeOffset) (v .object ++ v .tail) && isSum (r .objectChecksum) (v .object ++ v .tail)) ≡ true
-      right g = and-true _ _ (is-at (r .writeOffset) (v .object ++ v .tail) (g .stands)) (is-sum (r .objectChecksum) (v .object ++ v .tail) (g .sum))
+      right : RightFinish (v .stored .object ++ v .stored .tail) r → (isAt (r .writeOffset) (v .stored .object ++ v .stored .tail) && isSum (r .objectChecksum) (v .stored .object ++ v .stored .tail)) ≡ true
+      right g = and-true _ _ (is-at (r .writeOffset) (v .stored .object ++ v .stored .tail) (g .stands)) (is-sum (r .objectChecksum) (v .stored .object ++ v .stored .tail) (g .sum))
 
   flow-one : (r : Request) (o : Option ChecksummedData) (rest : List Request) (bytes had : ℕ) (v : Server) → r .checksummedData ≡ o
-      → FlowOK K p ph cs (setRequests (r ∷ rest) v) → FlowOK K p ph cs (takesOne r o bytes had (setRequests rest v))
+      → FlowOK K p ph cs (onLink (setRequests (r ∷ rest)) v) → FlowOK K p ph cs (takesOne r o bytes had (onLink (setRequests rest) v))
   flow-one r none rest bytes had v e h =
       cond-ind (FlowOK K p ph cs) (r .finishWrite) (λ f. flow-finish r rest bytes had v e f h)
       (λ f. record {
@@ -193,14 +193,14 @@ module _ {K : Bytes} {p : ℕ} {ph : Phase} {cs : List ReplayChunk} where
           alive = (h .flows l) .alive;
           goal = (h .flows l) .goal;
           goal-is = (h .flows l) .goal-is;
-          fits = subst (λ (b : Bytes). Fits b rest ((h .flows l) .goal)) (dataless-adds (v .object ++ v .tail) (r .checksummedData) e) ((h .flows l) .fits .1);
+          fits = subst (λ (b : Bytes). Fits b rest ((h .flows l) .goal)) (dataless-adds (v .stored .object ++ v .stored .tail) (r .checksummedData) e) ((h .flows l) .fits .1);
         };
       })
   flow-one r (some d) rest bytes had v e h = flow-chunk r d rest bytes had v e h
 
-  flow-next : (rs : List Request) (bytes had : ℕ) (v : Server) → FlowOK K p ph cs v → FlowOK K p ph cs (setRequests rs v) → FlowOK K p ph cs (takesNext rs bytes had v)
+  flow-next : (rs : List Request) (bytes had : ℕ) (v : Server) → FlowOK K p ph cs v → FlowOK K p ph cs (onLink (setRequests rs) v) → FlowOK K p ph cs (takesNext rs bytes had v)
   flow-next [] bytes had v h k = h
   flow-next (r ∷ rest) bytes had v h k = flow-one r (r .checksummedData) rest bytes had v refl k
 
-  pub flow-takes : {v : Server} (bytes had : ℕ) → FlowOK K p ph cs v → FlowOK K p ph cs (takesNext (v .requests) bytes had v)
-  flow-takes {v} bytes had h = flow-next (v .requests) bytes had v h h
+  pub flow-takes : {v : Server} (bytes had : ℕ) → FlowOK K p ph cs v → FlowOK K p ph cs (takesNext (v .link .requests) bytes had v)
+  flow-takes {v} bytes had h = flow-next (v .link .requests) bytes had v h h

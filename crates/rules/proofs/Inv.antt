@@ -137,9 +137,9 @@ Ascends low (m ∷ ms) high final =
 
 pub record ServerOK (K : Bytes) (p : ℕ) (sent : Bool) (v : Server) : Type 0 where
   pub rest : Bytes
-  pub begins : v .object ++ v .tail ++ rest ≡ K
-  pub requests : All (Right K sent) (v .requests)
-  pub messages : Ascends p (v .messages) (length (v .object)) (v .finalised)
+  pub begins : v .stored .object ++ v .stored .tail ++ rest ≡ K
+  pub requests : All (Right K sent) (v .link .requests)
+  pub messages : Ascends p (v .link .messages) (length (v .stored .object)) (v .stored .finalised)
 
 -- ---- the flow of requests on a connection that lost nothing
 
@@ -163,13 +163,13 @@ goalAt K p (replay i) cs = take p K ++ bytesOf (take i cs)
 goalAt K p (ended c) cs = K
 
 pub record Flowing (K : Bytes) (p : ℕ) (ph : Phase) (cs : List ReplayChunk) (v : Server) : Type 0 where
-  pub alive : v .alive ≡ true
+  pub alive : v .link .alive ≡ true
   pub goal : Bytes
-  pub fits : Fits (v .object ++ v .tail) (v .requests) goal
+  pub fits : Fits (v .stored .object ++ v .stored .tail) (v .link .requests) goal
   pub goal-is : isEnded ph ≡ false → goal ≡ goalAt K p ph cs
 
 pub record FlowOK (K : Bytes) (p : ℕ) (ph : Phase) (cs : List ReplayChunk) (v : Server) : Type 0 where
-  pub flows : v .lossless ≡ true → Flowing K p ph cs v
+  pub flows : v .link .lossless ≡ true → Flowing K p ph cs v
 
 -- ---- the whole
 
@@ -196,7 +196,7 @@ pub record Inv (from : ℕ) (w : World) : Type 0 where
   pub p : ℕ
   pub since : from ≤ p
   pub buffer : BufferOK K p (stockOf (w .session)) (tallyOf (w .notes))
-  pub wait : WaitOK K p (w .session .held) (waiters (w .session)) (w .session .worker .finalized) (isEnded (w .session .phase)) (w .notes .marks) (w .notes .completed) (w .server .finalised)
+  pub wait : WaitOK K p (w .session .held) (waiters (w .session)) (w .session .worker .finalized) (isEnded (w .session .phase)) (w .notes .marks) (w .notes .completed) (w .server .stored .finalised)
   pub replays : ReplayOK K p (w .session .phase) (chunks (w .session)) (w .notes .greeted) (w .notes .carried) (w .notes .atDone)
   pub server : ServerOK K p (w .session .worker .finalized) (w .server)
   pub flow : FlowOK K p (w .session .phase) (chunks (w .session)) (w .server)

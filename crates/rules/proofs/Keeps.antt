@@ -1,15 +1,18 @@
 -- Each event keeps the invariant.
 use mathlib.Core.Path.{_≡_, sym}
 use mathlib.Core.Bool.{Bool, true}
+use mathlib.Core.Option.{Option, some}
 use mathlib.Core.List.{List, [], _∷_}
 use Prim.Native.Nat.{ℕ}
+use lib.ListN.{getElem?}
+use Rattle.rules.specs.Message.{Request}
 use Rattle.rules.specs.Session.{Call, append, flush, finalise, nextRequest, close, sendFailed, response, handshake, break, judge, failedAttempt, chunks}
-use Rattle.rules.specs.Server.{Server, cutOff}
-use Rattle.rules.specs.World.{World, Event, hostCalls, hostHands, hostGreets, serverTakes, serverPersists, serverSays, linkCuts, calls, unprompted, happens, runs}
+use Rattle.rules.specs.Server.{Server, carries, onLink, cutOff}
+use Rattle.rules.specs.World.{World, Event, hostCalls, hostHands, hostSends, hostGreets, serverTakes, serverPersists, serverSays, linkCuts, calls, onLine, resends, unprompted, happens, runs}
 use Rattle.rules.proofs.Tests.{never}
-use Rattle.rules.proofs.Lists.{cond-ind}
+use Rattle.rules.proofs.Lists.{cond-ind, opt-ind, all-get}
 use Rattle.rules.proofs.Inv.{ServerOK, FlowOK, Inv}
-use Rattle.rules.proofs.Server.{says-ascends, server-loses, server-messages, server-cut, server-persists, server-takes, takes-final}
+use Rattle.rules.proofs.Server.{says-ascends, server-sends, server-loses, server-messages, server-cut, server-persists, server-takes, takes-final}
 use Rattle.rules.proofs.Flow.{flow-loses, flow-messages, flow-persists, flow-takes}
 use Rattle.rules.proofs.Wait.{wait-final}
 use Rattle.rules.proofs.CallsUpload.{append-keeps, flush-keeps, finalise-keeps}
@@ -31,7 +34,7 @@ call-keeps (judge v) could w f i = judge-keeps v could w i
 call-keeps (failedAttempt b v) could w f i = failed-keeps b v could w i
 
 -- the server or the connection changes
-on-server : {from : ℕ} {w : World} (v : Server) (i : Inv from w) → (w .server .finalised ≡ true → v .finalised ≡ true)
+on-server : {from : ℕ} {w : World} (v : Server) (i : Inv from w) → (w .server .stored .finalised ≡ true → v .stored .finalised ≡ true)
     → ServerOK (i .K) (i .p) (w .session .worker .finalized) v → FlowOK (i .K) (i .p) (w .session .phase) (chunks (w .session)) v
     → Inv from (record { session = w .session; server = v; notes = w .notes })
 on-server v i f s l = record {
@@ -50,13 +53,17 @@ on-server v i f s l = record {
 pub keeps : {from : ℕ} (e : Event) (w : World) → Inv from w → Inv from (happens e w)
 unfolding happens
 keeps {from} (hostCalls c could) w i = cond-ind (Inv from) (unprompted c) (λ f. call-keeps c could w f i) (λ f. i)
-keeps (hostHands could keep) w i = hands-keeps (w .server .messages) could keep w i (i .server .messages)
+keeps (hostHands could keep) w i = hands-keeps (w .server .link .messages) could keep w i (i .server .messages)
+keeps {from} (hostSends n) w i =
+    opt-ind (λ (o : Option Request). Inv from (onLine (resends o) w)) (getElem? (w .notes .handed) n) (λ _. i)
+    (λ r e. on-server _ i (λ f. f) (server-loses (server-sends true (some r) (all-get _ (w .notes .handed) n r (i .handed .right) e) (i .server)))
+    (flow-loses (onLink (carries r) (w .server))))
 keeps (hostGreets t handle) w i = handshake-keeps t handle true w i
 keeps (serverTakes bytes had) w i =
-    on-server _ i (takes-final (w .server .requests) bytes had (w .server)) (server-takes (w .server .requests) bytes had (i .server .requests) (i .server)) (flow-takes bytes had (i .flow))
+    on-server _ i (takes-final (w .server .link .requests) bytes had (w .server)) (server-takes (w .server .link .requests) bytes had (i .server .requests) (i .server)) (flow-takes bytes had (i .flow))
 keeps (serverPersists n) w i = on-server _ i (λ e. e) (server-persists n (i .server)) (flow-persists n (i .flow))
 keeps {from} (serverSays t handle) w i =
-    cond-ind (Inv from) (w .server .alive)
+    cond-ind (Inv from) (w .server .link .alive)
     (λ _. on-server _ i (λ e. e) (server-messages _ (says-ascends t handle (i .p) (w .server) (i .server .messages)) (i .server)) (flow-messages _ (i .flow)))
     (λ _. i)
 keeps (linkCuts bytes had) w i = on-server _ i (λ e. e) (server-loses (server-cut bytes had (i .server))) (flow-loses (cutOff bytes had (w .server)))

@@ -8,8 +8,8 @@ use Rattle.rules.specs.Message.{Bytes, Response}
 use Rattle.rules.specs.Session.{Session, Call, response, handshake, Result, answers}
 use Rattle.rules.specs.Step.{step}
 use Rattle.rules.specs.Opening.{Opening, opened, opens}
-use Rattle.rules.specs.Server.{says}
-use Rattle.rules.specs.World.{World, Event, hostCalls, hostHands, hostGreets, serverTakes, serverPersists, serverSays, linkCuts, after, unprompted, happens, handsOn, ServerAt, start}
+use Rattle.rules.specs.Server.{Stored, says}
+use Rattle.rules.specs.World.{World, Event, hostCalls, hostHands, hostSends, hostGreets, serverTakes, serverPersists, serverSays, linkCuts, after, unprompted, happens, handsOn, ServerAt, start}
 use Rattle.rules.specs.Demand3.{Holds}
 use Rattle.rules.specs.Beyond.{HoldsBeyond}
 use Rattle.rules.specs.Total.{firstTaken, Total}
@@ -37,8 +37,9 @@ calls-same false c could r w h = refl
 same : (e : Event) (r : Result) (w : World) → ((c : Call) → callIn e w ≡ some c → r ≡ step c (w .session)) → withResult e r w ≡ happens e w
 unfolding happens
 same (hostCalls c could) r w h = calls-same (unprompted c) c could r w h
-same (hostHands could keep) r w h = hands-same (w .server .messages) could keep r w h
-same (hostGreets t handle) r w h = ap (λ (x : Result). after (handshake (says (some t) handle (w .server))) true w x) (h _ refl)
+same (hostHands could keep) r w h = hands-same (w .server .link .messages) could keep r w h
+same (hostSends n) r w h = refl
+same (hostGreets t handle) r w h = ap (λ (x : Result). after (handshake (says (some t) handle (w .server .stored))) true w x) (h _ refl)
 same (serverTakes bytes had) r w h = refl
 same (serverPersists n) r w h = refl
 same (serverSays t handle) r w h = refl
@@ -63,11 +64,12 @@ says-left false v w s e f = f
 left-is : (e : Event) (r : Result) (w : World) → (callIn e w ≡ none → w .session ≡ r .session) → (withResult e r w) .session ≡ r .session
 unfolding happens
 left-is (hostCalls c could) r w h = calls-left (unprompted c) c could r w h
-left-is (hostHands could keep) r w h = hands-left (w .server .messages) could keep r w h
+left-is (hostHands could keep) r w h = hands-left (w .server .link .messages) could keep r w h
+left-is (hostSends n) r w h = h refl
 left-is (hostGreets t handle) r w h = refl
 left-is (serverTakes bytes had) r w h = h refl
 left-is (serverPersists n) r w h = h refl
-left-is (serverSays t handle) r w h = says-left (w .server .alive) _ w (r .session) (h refl) (h refl)
+left-is (serverSays t handle) r w h = says-left (w .server .link .alive) _ w (r .session) (h refl) (h refl)
 left-is (linkCuts bytes had) r w h = h refl
 
 -- ---- the claims
@@ -85,15 +87,15 @@ module _ {S : Type 0} (Valid : S → Type 0) (view : S → Session) where
       ran-keeps ts (t .left) (turned Valid view t w) valid (left-is (t .event) (answers (t .answer) (view (t .left))) w (λ f. e ∙ ap view (sym (d .0 .idle f)))) (d .1)
       (subst (Inv from) (sym q) (keeps (t .event) w i))
 
-  program-inv : (o : Opening) (s : S) → Valid s → opens o ≡ opened (view s) → (object tail : Bytes) → ServerAt o object tail
-      → (ts : List (Turn Valid view)) → AllDid Valid view ts s (start o (view s) object tail)
-      → Inv (firstTaken (o .payload) object) (ran Valid view ts (start o (view s) object tail))
+  program-inv : (o : Opening) (s : S) → Valid s → opens o ≡ opened (view s) → (k : Stored) → ServerAt o k
+      → (ts : List (Turn Valid view)) → AllDid Valid view ts s (start o (view s) k)
+      → Inv (firstTaken (o .payload) (k .object)) (ran Valid view ts (start o (view s) k))
   unfolding start
-  program-inv o s p a object tail v ts d = ran-keeps ts s (start o (view s) object tail) p refl d (start-inv o (view s) a object tail v)
+  program-inv o s p a k v ts d = ran-keeps ts s (start o (view s) k) p refl d (start-inv o (view s) a k v)
 
   -- whatever the invariant gives
   pub program-always : (Q : World → Type 0) → ((from : ℕ) (w : World) → Inv from w → Q w) → AlwaysDid Valid view Q
-  program-always Q f o s p a object tail v ts d = f (firstTaken (o .payload) object) (ran Valid view ts (start o (view s) object tail)) (program-inv o s p a object tail v ts d)
+  program-always Q f o s p a k v ts d = f (firstTaken (o .payload) (k .object)) (ran Valid view ts (start o (view s) k)) (program-inv o s p a k v ts d)
 
   pub program-demand3 : AlwaysDid Valid view Holds
   program-demand3 = program-always Holds (λ from. holds)
@@ -101,7 +103,7 @@ module _ {S : Type 0} (Valid : S → Type 0) (view : S → Session) where
   pub program-beyond : AlwaysDid Valid view HoldsBeyond
   program-beyond = program-always HoldsBeyond (λ from. holds-beyond)
 
-  pub program-byte-total : (o : Opening) (s : S) → Valid s → opens o ≡ opened (view s) → (object tail : Bytes) → ServerAt o object tail
-      → (ts : List (Turn Valid view)) → AllDid Valid view ts s (start o (view s) object tail)
-      → Total (firstTaken (o .payload) object) (ran Valid view ts (start o (view s) object tail))
-  program-byte-total o s p a object tail v ts d = totals (ran Valid view ts (start o (view s) object tail)) (program-inv o s p a object tail v ts d)
+  pub program-byte-total : (o : Opening) (s : S) → Valid s → opens o ≡ opened (view s) → (k : Stored) → ServerAt o k
+      → (ts : List (Turn Valid view)) → AllDid Valid view ts s (start o (view s) k)
+      → Total (firstTaken (o .payload) (k .object)) (ran Valid view ts (start o (view s) k))
+  program-byte-total o s p a k v ts d = totals (ran Valid view ts (start o (view s) k)) (program-inv o s p a k v ts d)

@@ -13,7 +13,7 @@ use Rattle.crc32c.specs.Reg.{crcOf}
 use Rattle.rules.specs.Message.{Bytes, ChecksummedData, Request, Response, sizeOf}
 use Rattle.rules.specs.Session.{ReplayChunk}
 use Rattle.rules.specs.Upload.{chunkRequest}
-use Rattle.rules.specs.Server.{Server, setRequests, setMessages, cutOff, loses, connects, isAt, isSum, takesChunk, takesFinish, takesOne, takesNext, persists, Told, alone, inResource, says}
+use Rattle.rules.specs.Server.{Server, setRequests, setMessages, loses, onLink, onStored, cutOff, connects, isAt, isSum, takesChunk, takesFinish, takesOne, takesNext, persists, Told, alone, inResource, says}
 use Rattle.rules.specs.World.{sending}
 use Rattle.rules.specs.Beyond.{All}
 use Rattle.rules.proofs.Tests.{never, clash, and-left, and-right}
@@ -100,23 +100,23 @@ ascends-take zero ms low high final h = ascends-le ms low high final h
 ascends-take (suc n) [] low high final h = h
 ascends-take (suc n) (m ∷ ms) low high final h = (h .0, h .1, ascends-take n ms (least low (sizeOf (m .writeStatus))) high final (h .2))
 
-said : (t : Option Told) (handle : Option Bytes) (v : Server) → Ascends (length (v .object)) (says t handle v ∷ []) (length (v .object)) (v .finalised)
+said : (t : Option Told) (handle : Option Bytes) (v : Server) → Ascends (length (v .stored .object)) (says t handle (v .stored) ∷ []) (length (v .stored .object)) (v .stored .finalised)
 said none handle v = (tt, (λ e. never (sym e)), omega arith)
 said (some alone) handle v = (omega arith, (λ e. never (sym e)), omega arith)
-said (some (inResource g marked)) handle v = (omega arith, and-right marked (v .finalised), omega arith)
+said (some (inResource g marked)) handle v = (omega arith, and-right marked (v .stored .finalised), omega arith)
 
 -- what is on its way, and one more
-pub says-ascends : (t : Option Told) (handle : Option Bytes) (low : ℕ) (v : Server) → Ascends low (v .messages) (length (v .object)) (v .finalised)
-    → Ascends low (v .messages ++ (says t handle v ∷ [])) (length (v .object)) (v .finalised)
-says-ascends t handle low v h = ascends-append (v .messages) (says t handle v ∷ []) low (length (v .object)) (v .finalised) h (said t handle v)
+pub says-ascends : (t : Option Told) (handle : Option Bytes) (low : ℕ) (v : Server) → Ascends low (v .link .messages) (length (v .stored .object)) (v .stored .finalised)
+    → Ascends low (v .link .messages ++ (says t handle (v .stored) ∷ [])) (length (v .stored .object)) (v .stored .finalised)
+says-ascends t handle low v h = ascends-append (v .link .messages) (says t handle (v .stored) ∷ []) low (length (v .stored .object)) (v .stored .finalised) h (said t handle v)
 
 -- ---- the session grows, or sends finalise
 
 pub server-grow : {K : Bytes} {p : ℕ} {sent : Bool} {v : Server} (x : Bytes) → sent ≡ false → ServerOK K p sent v → ServerOK (K ++ x) p sent v
 server-grow {K} {sent} {v} x e s = record {
   rest = s .rest ++ x;
-  begins = sym (append-assoc (v .object ++ v .tail) (s .rest) x) ∙ ap (λ (r : Bytes). r ++ x) (s .begins);
-  requests = all-map (Right K sent) (Right (K ++ x) sent) (right-grow x e) (v .requests) (s .requests);
+  begins = sym (append-assoc (v .stored .object ++ v .stored .tail) (s .rest) x) ∙ ap (λ (r : Bytes). r ++ x) (s .begins);
+  requests = all-map (Right K sent) (Right (K ++ x) sent) (right-grow x e) (v .link .requests) (s .requests);
   messages = s .messages;
 }
 
@@ -125,58 +125,58 @@ server-sent {K} {sent} {sent′} {v} f s = record {
   rest = s .rest;
   begins = s .begins;
   messages = s .messages;
-  requests = all-map (Right K sent) (Right K sent′) (right-sent f) (v .requests) (s .requests);
+  requests = all-map (Right K sent) (Right K sent′) (right-sent f) (v .link .requests) (s .requests);
 }
 
 -- ---- the connection
 
 pub server-sends : {K : Bytes} {p : ℕ} {sent : Bool} {v : Server} (could : Bool) (o : Option Request) → RightIf K sent o → ServerOK K p sent v
-    → ServerOK K p sent (sending could o v)
+    → ServerOK K p sent (onLink (sending could o) v)
 server-sends could none u s = s
 server-sends {K} {sent} {v} true (some r) u s = record {
   rest = s .rest;
   begins = s .begins;
   messages = s .messages;
-  requests = cond-ind (All (Right K sent)) (v .alive) (λ e. all-append (Right K sent) (v .requests) (r ∷ []) (s .requests) (u, tt)) (λ e. s .requests);
+  requests = cond-ind (All (Right K sent)) (v .link .alive) (λ e. all-append (Right K sent) (v .link .requests) (r ∷ []) (s .requests) (u, tt)) (λ e. s .requests);
 }
 server-sends false (some r) u s = record { rest = s .rest; begins = s .begins; messages = s .messages; requests = s .requests }
 
-pub server-loses : {K : Bytes} {p : ℕ} {sent : Bool} {v : Server} → ServerOK K p sent v → ServerOK K p sent (loses v)
+pub server-loses : {K : Bytes} {p : ℕ} {sent : Bool} {v : Server} → ServerOK K p sent v → ServerOK K p sent (onLink loses v)
 server-loses s = record { rest = s .rest; begins = s .begins; messages = s .messages; requests = s .requests }
 
 -- other messages, from another size on
-pub server-messages : {K : Bytes} {p n : ℕ} {sent : Bool} {v : Server} (ms : List Response) → Ascends n ms (length (v .object)) (v .finalised)
-    → ServerOK K p sent v → ServerOK K n sent (setMessages ms v)
+pub server-messages : {K : Bytes} {p n : ℕ} {sent : Bool} {v : Server} (ms : List Response) → Ascends n ms (length (v .stored .object)) (v .stored .finalised)
+    → ServerOK K p sent v → ServerOK K n sent (onLink (setMessages ms) v)
 server-messages ms h s = record { rest = s .rest; begins = s .begins; messages = h; requests = s .requests }
 
-pub server-connects : {K : Bytes} {p : ℕ} {sent : Bool} {v : Server} → ServerOK K p sent v → ServerOK K (length (v .object)) sent (connects v)
+pub server-connects : {K : Bytes} {p : ℕ} {sent : Bool} {v : Server} → ServerOK K p sent v → ServerOK K (length (v .stored .object)) sent (connects v)
 server-connects {v} s = record {
-  rest = v .tail ++ s .rest;
+  rest = v .stored .tail ++ s .rest;
   requests = tt;
   messages = omega arith;
-  begins = ap (λ (r : Bytes). r ++ (v .tail ++ s .rest)) (append-nil (v .object)) ∙ sym (append-assoc (v .object) (v .tail) (s .rest)) ∙ s .begins;
+  begins = ap (λ (r : Bytes). r ++ (v .stored .tail ++ s .rest)) (append-nil (v .stored .object)) ∙ sym (append-assoc (v .stored .object) (v .stored .tail) (s .rest)) ∙ s .begins;
 }
 
 pub server-cut : {K : Bytes} {p : ℕ} {sent : Bool} {v : Server} (bytes had : ℕ) → ServerOK K p sent v → ServerOK K p sent (cutOff bytes had v)
 server-cut {p} {v} bytes had s = record {
-  rest = drop bytes (v .tail) ++ s .rest;
+  rest = drop bytes (v .stored .tail) ++ s .rest;
   requests = tt;
-  messages = ascends-take had (v .messages) p (length (v .object)) (v .finalised) (s .messages);
-  begins = sym (append-assoc (v .object ++ take bytes (v .tail)) (drop bytes (v .tail)) (s .rest))
-      ∙ ap (λ (r : Bytes). r ++ s .rest) (append-assoc (v .object) (take bytes (v .tail)) (drop bytes (v .tail)) ∙ ap (λ (r : Bytes). v .object ++ r) (take-append-drop bytes (v .tail)))
+  messages = ascends-take had (v .link .messages) p (length (v .stored .object)) (v .stored .finalised) (s .messages);
+  begins = sym (append-assoc (v .stored .object ++ take bytes (v .stored .tail)) (drop bytes (v .stored .tail)) (s .rest))
+      ∙ ap (λ (r : Bytes). r ++ s .rest) (append-assoc (v .stored .object) (take bytes (v .stored .tail)) (drop bytes (v .stored .tail)) ∙ ap (λ (r : Bytes). v .stored .object ++ r) (take-append-drop bytes (v .stored .tail)))
       ∙ s .begins;
 }
 
 -- ---- what the server does
 
-pub server-persists : {K : Bytes} {p : ℕ} {sent : Bool} {v : Server} (n : ℕ) → ServerOK K p sent v → ServerOK K p sent (persists n v)
+pub server-persists : {K : Bytes} {p : ℕ} {sent : Bool} {v : Server} (n : ℕ) → ServerOK K p sent v → ServerOK K p sent (onStored (persists n) v)
 server-persists {p} {v} n s =
-    let l : length (v .object) ≤ length (v .object ++ take n (v .tail)) = omega (arith, length-append (v .object) (take n (v .tail))) in
+    let l : length (v .stored .object) ≤ length (v .stored .object ++ take n (v .stored .tail)) = omega (arith, length-append (v .stored .object) (take n (v .stored .tail))) in
     record {
       rest = s .rest;
       requests = s .requests;
-      messages = ascends-up (v .messages) p (length (v .object)) _ (v .finalised) (v .finalised) l (λ e. e) (s .messages);
-      begins = ap (λ (r : Bytes). r ++ s .rest) (append-assoc (v .object) (take n (v .tail)) (drop n (v .tail)) ∙ ap (λ (r : Bytes). v .object ++ r) (take-append-drop n (v .tail)))
+      messages = ascends-up (v .link .messages) p (length (v .stored .object)) _ (v .stored .finalised) (v .stored .finalised) l (λ e. e) (s .messages);
+      begins = ap (λ (r : Bytes). r ++ s .rest) (append-assoc (v .stored .object) (take n (v .stored .tail)) (drop n (v .stored .tail)) ∙ ap (λ (r : Bytes). v .stored .object ++ r) (take-append-drop n (v .stored .tail)))
           ∙ s .begins;
     }
 
@@ -186,50 +186,37 @@ at-true z n b e h = eqb-true n (length b) (subst (λ (x : ℤ). isAt x b ≡ tru
 server-chunk : {K : Bytes} {p : ℕ} {sent : Bool} {v : Server} (at : ℤ) (d : ChecksummedData) (bytes had : ℕ) → Slice K at (d .content) (d .crc32c)
     → ServerOK K p sent v → ServerOK K p sent (takesChunk at d bytes had v)
 server-chunk {K} {p} {sent} {v} at d bytes had u s =
-    cond-ind (ServerOK K p sent) (isAt at (v .object ++ v .tail) && eqb (d .crc32c) (crcOf (d .content))) joins (λ e. server-cut bytes had s)
+    cond-ind (ServerOK K p sent) (isAt at (v .stored .object ++ v .stored .tail) && eqb (d .crc32c) (crcOf (d .content))) joins (λ e. server-cut bytes had s)
   where
-    joins : (isAt at (v .object ++ v .tail) && eqb (d .crc32c) (crcOf (d .content))) ≡ true → ServerOK K p sent (record {
-      object = v .object;
-      tail = v .tail ++ d .content;
-      finalised = v .finalised;
-      requests = v .requests;
-      messages = v .messages;
-      alive = v .alive;
-      lossless = v .lossless;
+    joins : (isAt at (v .stored .object ++ v .stored .tail) && eqb (d .crc32c) (crcOf (d .content))) ≡ true → ServerOK K p sent (record {
+      stored = record { object = v .stored .object; tail = v .stored .tail ++ d .content; finalised = v .stored .finalised };
+      link = v .link;
     })
     joins e =
-        let l : length (u .before) ≡ length (v .object ++ v .tail) = at-true at _ (v .object ++ v .tail) (u .at-is) (and-left _ _ e) in
-        let w : u .before ++ (d .content ++ u .behind) ≡ (v .object ++ v .tail) ++ s .rest
+        let l : length (u .before) ≡ length (v .stored .object ++ v .stored .tail) = at-true at _ (v .stored .object ++ v .stored .tail) (u .at-is) (and-left _ _ e) in
+        let w : u .before ++ (d .content ++ u .behind) ≡ (v .stored .object ++ v .stored .tail) ++ s .rest
         = sym (append-assoc (u .before) (d .content) (u .behind)) ∙ sym (u .whole) ∙ sym (s .begins) in
-        let q : u .before ≡ v .object ++ v .tail = split-left (u .before) (v .object ++ v .tail) (d .content ++ u .behind) (s .rest) w l in
+        let q : u .before ≡ v .stored .object ++ v .stored .tail = split-left (u .before) (v .stored .object ++ v .stored .tail) (d .content ++ u .behind) (s .rest) w l in
         record {
           rest = u .behind;
           requests = s .requests;
           messages = s .messages;
-          begins = ap (λ (x : Bytes). x ++ u .behind) (sym (append-assoc (v .object) (v .tail) (d .content)) ∙ ap (λ (x : Bytes). x ++ d .content) (sym q)) ∙ sym (u .whole);
+          begins = ap (λ (x : Bytes). x ++ u .behind) (sym (append-assoc (v .stored .object) (v .stored .tail) (d .content)) ∙ ap (λ (x : Bytes). x ++ d .content) (sym q)) ∙ sym (u .whole);
         }
 
 server-finish : {K : Bytes} {p : ℕ} {sent : Bool} {v : Server} (at : ℤ) (sum : Option ℕ) (bytes had : ℕ)
     → ServerOK K p sent v → ServerOK K p sent (takesFinish at sum bytes had v)
 server-finish {K} {p} {sent} {v} at sum bytes had s =
-    cond-ind (ServerOK K p sent) (isAt at (v .object ++ v .tail) && isSum sum (v .object ++ v .tail)) (λ e. joins) (λ e. server-cut bytes had s)
+    cond-ind (ServerOK K p sent) (isAt at (v .stored .object ++ v .stored .tail) && isSum sum (v .stored .object ++ v .stored .tail)) (λ e. joins) (λ e. server-cut bytes had s)
   where
-    joins : ServerOK K p sent (record {
-      object = v .object ++ v .tail;
-      tail = [];
-      finalised = true;
-      requests = v .requests;
-      messages = v .messages;
-      alive = v .alive;
-      lossless = v .lossless;
-    })
+    joins : ServerOK K p sent (record { stored = record { object = v .stored .object ++ v .stored .tail; tail = []; finalised = true }; link = v .link })
     joins =
-        let l : length (v .object) ≤ length (v .object ++ v .tail) = omega (arith, length-append (v .object) (v .tail)) in
+        let l : length (v .stored .object) ≤ length (v .stored .object ++ v .stored .tail) = omega (arith, length-append (v .stored .object) (v .stored .tail)) in
         record {
           rest = s .rest;
           requests = s .requests;
-          messages = ascends-up (v .messages) p (length (v .object)) _ (v .finalised) true l (λ e. refl) (s .messages);
-          begins = ap (λ (x : Bytes). x ++ s .rest) (append-nil (v .object ++ v .tail)) ∙ s .begins;
+          messages = ascends-up (v .link .messages) p (length (v .stored .object)) _ (v .stored .finalised) true l (λ e. refl) (s .messages);
+          begins = ap (λ (x : Bytes). x ++ s .rest) (append-nil (v .stored .object ++ v .stored .tail)) ∙ s .begins;
         }
 
 server-one : {K : Bytes} {p : ℕ} {sent : Bool} {v : Server} (r : Request) (o : Option ChecksummedData) (bytes had : ℕ)
@@ -246,30 +233,25 @@ server-takes (r ∷ rest) bytes had us s =
     server-one r (r .checksummedData) bytes had (us .0 .chunk) (record { rest = s .rest; begins = s .begins; messages = s .messages; requests = us .1 })
 
 -- a finalised object stays finalised
-pub sending-final : (could : Bool) (o : Option Request) (v : Server) → v .finalised ≡ true → (sending could o v) .finalised ≡ true
-sending-final could none v e = e
-sending-final true (some r) v e = e
-sending-final false (some r) v e = e
-
-finish-final : (at : ℤ) (sum : Option ℕ) (bytes had : ℕ) (v : Server) → v .finalised ≡ true → (takesFinish at sum bytes had v) .finalised ≡ true
+finish-final : (at : ℤ) (sum : Option ℕ) (bytes had : ℕ) (v : Server) → v .stored .finalised ≡ true → (takesFinish at sum bytes had v) .stored .finalised ≡ true
 finish-final at sum bytes had v e =
-    cond-ind (λ (x : Server). x .finalised ≡ true) (isAt at (v .object ++ v .tail) && isSum sum (v .object ++ v .tail)) (λ f. refl) (λ f. e)
+    cond-ind (λ (x : Server). x .stored .finalised ≡ true) (isAt at (v .stored .object ++ v .stored .tail) && isSum sum (v .stored .object ++ v .stored .tail)) (λ f. refl) (λ f. e)
 
-one-final : (r : Request) (o : Option ChecksummedData) (bytes had : ℕ) (v : Server) → v .finalised ≡ true → (takesOne r o bytes had v) .finalised ≡ true
+one-final : (r : Request) (o : Option ChecksummedData) (bytes had : ℕ) (v : Server) → v .stored .finalised ≡ true → (takesOne r o bytes had v) .stored .finalised ≡ true
 one-final r none bytes had v e =
-    cond-ind (λ (x : Server). x .finalised ≡ true) (r .finishWrite) (λ f. finish-final (r .writeOffset) (r .objectChecksum) bytes had v e) (λ f. e)
+    cond-ind (λ (x : Server). x .stored .finalised ≡ true) (r .finishWrite) (λ f. finish-final (r .writeOffset) (r .objectChecksum) bytes had v e) (λ f. e)
 one-final r (some d) bytes had v e =
-    cond-ind (λ (x : Server). x .finalised ≡ true) (isAt (r .writeOffset) (v .object ++ v .tail) && eqb (d .crc32c) (crcOf (d .content))) (λ f. e) (λ f. e)
+    cond-ind (λ (x : Server). x .stored .finalised ≡ true) (isAt (r .writeOffset) (v .stored .object ++ v .stored .tail) && eqb (d .crc32c) (crcOf (d .content))) (λ f. e) (λ f. e)
 
-pub takes-final : (rs : List Request) (bytes had : ℕ) (v : Server) → v .finalised ≡ true → (takesNext rs bytes had v) .finalised ≡ true
+pub takes-final : (rs : List Request) (bytes had : ℕ) (v : Server) → v .stored .finalised ≡ true → (takesNext rs bytes had v) .stored .finalised ≡ true
 takes-final [] bytes had v e = e
-takes-final (r ∷ rest) bytes had v e = one-final r (r .checksummedData) bytes had (setRequests rest v) e
+takes-final (r ∷ rest) bytes had v e = one-final r (r .checksummedData) bytes had (onLink (setRequests rest) v) e
 
 -- ---- what it tells
 
-pub server-below : {K : Bytes} {p : ℕ} {sent : Bool} {v : Server} → ServerOK K p sent v → p ≤ length (v .object)
-server-below {p} {v} s = ascends-le (v .messages) p (length (v .object)) (v .finalised) (s .messages)
+pub server-below : {K : Bytes} {p : ℕ} {sent : Bool} {v : Server} → ServerOK K p sent v → p ≤ length (v .stored .object)
+server-below {p} {v} s = ascends-le (v .link .messages) p (length (v .stored .object)) (v .stored .finalised) (s .messages)
 
 -- the object is no longer than K
-pub server-within : {K : Bytes} {p : ℕ} {sent : Bool} {v : Server} → ServerOK K p sent v → length (v .object) ≤ length K
-server-within {v} s = omega (arith, ap length (s .begins), length-append (v .object ++ v .tail) (s .rest), length-append (v .object) (v .tail))
+pub server-within : {K : Bytes} {p : ℕ} {sent : Bool} {v : Server} → ServerOK K p sent v → length (v .stored .object) ≤ length K
+server-within {v} s = omega (arith, ap length (s .begins), length-append (v .stored .object ++ v .stored .tail) (s .rest), length-append (v .stored .object) (v .stored .tail))

@@ -16,6 +16,7 @@ use Rattle.rules.specs.Message.{Bytes}
 use Rattle.rules.specs.Session.{ReplayChunk, Session}
 use Rattle.rules.specs.Respond.{ack}
 use Rattle.rules.specs.Opening.{Opening, opened, larger, payloadLength, openSum, openChunks, openSession, opens}
+use Rattle.rules.specs.Server.{Stored}
 use Rattle.rules.specs.World.{baseOf, ServerAt, start}
 use Rattle.rules.specs.Total.{firstTaken}
 use Rattle.rules.proofs.Tests.{never}
@@ -87,21 +88,21 @@ first-below : (payload : Option Bytes) (object : Bytes) → firstTaken payload o
 first-below none object = omega arith
 first-below (some b) object = omega arith
 
-pub start-inv : (o : Opening) (s : Session) → opens o ≡ opened s → (object tail : Bytes) → ServerAt o object tail
-    → Inv (firstTaken (o .payload) object) (start o s object tail)
+pub start-inv : (o : Opening) (s : Session) → opens o ≡ opened s → (k : Stored) → ServerAt o k
+    → Inv (firstTaken (o .payload) (k .object)) (start o s k)
 unfolding start openSession
-start-inv o s a object tail v =
+start-inv o s a k v =
     let l : 0 < o .limit = (accepted o s a) .positive in
     let e : openSession o ≡ s = (accepted o s a) .is in
-    subst (λ (x : Session). Inv (firstTaken (o .payload) object) (start o x object tail)) e (record {
-      K = baseOf (o .payload) object;
-      p = length object;
-      since = first-below (o .payload) object;
+    subst (λ (x : Session). Inv (firstTaken (o .payload) (k .object)) (start o x k)) e (record {
+      K = baseOf (o .payload) (k .object);
+      p = length (k .object);
+      since = first-below (o .payload) (k .object);
       steady = refl;
       buffer = subst
-          (λ (z : ℤ). BufferOK (baseOf (o .payload) object) (length object) (openStock (o .limit) (o .payload) (o .checksum) z)
-          (record { limit = o .limit; all = baseOf (o .payload) object; loose = 0; largest = z }))
-          (sym (v .size)) (open-buffer (o .limit) (o .payload) (o .checksum) object tail l (v .together) (v .summed));
+          (λ (z : ℤ). BufferOK (baseOf (o .payload) (k .object)) (length (k .object)) (openStock (o .limit) (o .payload) (o .checksum) z)
+          (record { limit = o .limit; all = baseOf (o .payload) (k .object); loose = 0; largest = z }))
+          (sym (v .size)) (open-buffer (o .limit) (o .payload) (o .checksum) (k .object) (k .tail) l (v .together) (v .summed));
       wait = record {
         gone = [];
         todo = [];
@@ -116,7 +117,7 @@ start-inv o s a object tail v =
         no-held = λ _. refl;
       };
       replays = record { mid = λ g. never (sym g); end = λ g. never (sym g) };
-      server = record { rest = []; begins = append-nil (object ++ tail) ∙ v .together; requests = tt; messages = omega arith };
-      flow = record { flows = λ _. record { alive = refl; goal = object ++ tail; fits = refl; goal-is = λ _. v .together } };
+      server = record { rest = []; begins = append-nil (k .object ++ k .tail) ∙ v .together; requests = tt; messages = omega arith };
+      flow = record { flows = λ _. record { alive = refl; goal = k .object ++ k .tail; fits = refl; goal-is = λ _. v .together } };
       handed = record { right = tt };
     })

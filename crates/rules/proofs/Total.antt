@@ -19,4 +19,4 @@ totals {from} w i = record {
 }
 
 pub byte-total : ByteTotal
-byte-total o s a object tail v es = totals (runs es (start o s object tail)) (runs-keep es (start o s object tail) (start-inv o s a object tail v))
+byte-total o s a k v es = totals (runs es (start o s k)) (runs-keep es (start o s k) (start-inv o s a k v))

@@ -39,9 +39,9 @@ pub record HoldsBeyond (w : World) : Type 0 where
   pub requests : All (RightRequest (w .notes .all)) (w .notes .handed)
   -- (b) "once a finalise's waiter is reported completed, the server's object is finalised"
   pub finalised : (i : ℕ) (m : Mark) → i < w .notes .completed → getElem? (w .notes .marks) i ≡ some m → m .kind ≡ finalizing
-      → w .server .finalised ≡ true
+      → w .server .stored .finalised ≡ true
   -- (c) a connection that lost nothing, with every request sent on it, was never cut: no request was answered by a cut
-  pub uncut : w .server .lossless ≡ true → w .server .alive ≡ true
+  pub uncut : w .server .link .lossless ≡ true → w .server .link .alive ≡ true
   -- (d)
   pub steady : w .session .phase ≢ ended regressed
 

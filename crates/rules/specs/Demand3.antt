@@ -9,20 +9,21 @@ use lib.IntN.{pos}
 use Rattle.rules.specs.Message.{Bytes}
 use Rattle.rules.specs.Session.{finalizing, Session, chunks, bytesOf}
 use Rattle.rules.specs.Opening.{Opening, opened, opens}
+use Rattle.rules.specs.Server.{Stored}
 use Rattle.rules.specs.Notes.{Mark}
 use Rattle.rules.specs.World.{World, Event, runs, ServerAt, start}
 
 -- "of every waiter reported completed, the base and every byte taken before the call that made it are persisted"
 pub record Persisted (m : Mark) (w : World) : Type 0 where
-  pub there : m .before ≤ length (w .server .object)
-  pub same : take (m .before) (w .server .object) ≡ take (m .before) (w .notes .all)
+  pub there : m .before ≤ length (w .server .stored .object)
+  pub same : take (m .before) (w .server .stored .object) ≡ take (m .before) (w .notes .all)
 
 -- "the bytes stored, then those held, are exactly the base and bytes taken from the largest stated size on, and all below that size is persisted"
 pub record Kept (w : World) : Type 0 where
   pub size : ℕ
   pub largest : w .notes .largest ≡ pos size
   pub stored-held : bytesOf (chunks (w .session)) ++ w .session .held ≡ drop size (w .notes .all)
-  pub below : size ≤ length (w .server .object)
+  pub below : size ≤ length (w .server .stored .object)
 
 -- "At a *done*, the chunk data of the requests handed out since the last accepted handshake, joined, is W as it then is, from that handshake's
 -- size on and without its last h bytes."
@@ -33,7 +34,7 @@ pub record Replayed (w : World) : Type 0 where
 
 pub record Holds (w : World) : Type 0 where
   -- "the object is a beginning of its base and the bytes taken"
-  pub begins : (rest : Bytes) × (w .server .object ++ rest ≡ w .notes .all)
+  pub begins : (rest : Bytes) × (w .server .stored .object ++ rest ≡ w .notes .all)
   -- the waiters reported completed were made
   pub counted : w .notes .completed ≤ length (w .notes .marks)
   pub waited : (i : ℕ) (m : Mark) → i < w .notes .completed → getElem? (w .notes .marks) i ≡ some m → Persisted m w
@@ -42,13 +43,13 @@ pub record Holds (w : World) : Type 0 where
   pub replayed : w .notes .atDone ≡ true → Replayed w
   -- "Once a finalise's waiter is reported completed, the object is exactly its base and all bytes taken."
   pub finalised : (i : ℕ) (m : Mark) → i < w .notes .completed → getElem? (w .notes .marks) i ≡ some m → m .kind ≡ finalizing
-      → w .server .object ≡ w .notes .all
+      → w .server .stored .object ≡ w .notes .all
 
 -- from an accepted opening, under the server rules at opening, after every list of events
 abbrev pub Always : (World → Type 0) → Type 0
 Always Q =
-    (o : Opening) (s : Session) → opens o ≡ opened s → (object tail : Bytes) → ServerAt o object tail
-    → (es : List Event) → Q (runs es (start o s object tail))
+    (o : Opening) (s : Session) → opens o ≡ opened s → (k : Stored) → ServerAt o k
+    → (es : List Event) → Q (runs es (start o s k))
 
 abbrev pub Demand3 : Type 0
 Demand3 = Always Holds

@@ -4,13 +4,13 @@ use mathlib.Core.Path.{_≡_}
 use mathlib.Core.Bool.{Bool, true, not, cond, _&&_}
 use mathlib.Core.Option.{Option, none, some}
 use mathlib.Core.List.{List, [], _∷_}
-use Rattle.rules.specs.Message.{Bytes, Response}
+use Rattle.rules.specs.Message.{Response}
 use Rattle.rules.specs.Session.{Session, Call, response, handshake, Answer, Result, answers}
 use Rattle.rules.specs.Step.{step}
 use Rattle.rules.specs.Opening.{Opening, opened, opens}
-use Rattle.rules.specs.Server.{says, setMessages}
+use Rattle.rules.specs.Server.{Stored, setMessages, says}
 use Rattle.rules.specs.Notes.{accepted}
-use Rattle.rules.specs.World.{World, Event, hostCalls, hostHands, hostGreets, serverTakes, serverPersists, serverSays, linkCuts, after, onServer, unprompted, happens, ServerAt, start}
+use Rattle.rules.specs.World.{World, Event, hostCalls, hostHands, hostSends, hostGreets, serverTakes, serverPersists, serverSays, linkCuts, after, onLine, unprompted, happens, ServerAt, start}
 
 abbrev pub handedCall : List Response → Option Call
 handedCall [] = none
@@ -19,8 +19,9 @@ handedCall (m ∷ rest) = some (response m)
 -- the call that an event makes
 abbrev pub callIn : Event → World → Option Call
 callIn (hostCalls c sent) w = cond (unprompted c) (some c) none
-callIn (hostHands sent keep) w = handedCall (w .server .messages)
-callIn (hostGreets t handle) w = some (handshake (says (some t) handle (w .server)))
+callIn (hostHands sent keep) w = handedCall (w .server .link .messages)
+callIn (hostSends i) w = none
+callIn (hostGreets t handle) w = some (handshake (says (some t) handle (w .server .stored)))
 callIn (serverTakes bytes had) w = none
 callIn (serverPersists n) w = none
 callIn (serverSays t handle) w = none
@@ -29,13 +30,14 @@ callIn (linkCuts bytes had) w = none
 abbrev pub handsWith : List Response → Bool → Bool → Result → World → World
 handsWith [] sent keep r w = w
 handsWith (m ∷ rest) sent keep r w =
-    after (response m) sent (onServer (setMessages (cond (keep && not (accepted (r .answer))) (m ∷ rest) rest)) w) r
+    after (response m) sent (onLine (setMessages (cond (keep && not (accepted (r .answer))) (m ∷ rest) rest)) w) r
 
 -- the world after an event whose call, if it makes one, gave r
 abbrev pub withResult : Event → Result → World → World
 withResult (hostCalls c sent) r w = cond (unprompted c) (after c sent w r) w
-withResult (hostHands sent keep) r w = handsWith (w .server .messages) sent keep r w
-withResult (hostGreets t handle) r w = after (handshake (says (some t) handle (w .server))) true w r
+withResult (hostHands sent keep) r w = handsWith (w .server .link .messages) sent keep r w
+withResult (hostSends i) r w = happens (hostSends i) w
+withResult (hostGreets t handle) r w = after (handshake (says (some t) handle (w .server .stored))) true w r
 withResult (serverTakes bytes had) r w = happens (serverTakes bytes had) w
 withResult (serverPersists n) r w = happens (serverPersists n) w
 withResult (serverSays t handle) r w = happens (serverSays t handle) w
@@ -67,5 +69,5 @@ module _ {S : Type 0} (Valid : S → Type 0) (view : S → Session) where
   -- Q holds after every list of such turns from an accepted opening
   abbrev pub AlwaysDid : (World → Type 0) → Type 0
   AlwaysDid Q =
-      (o : Opening) (s : S) → Valid s → opens o ≡ opened (view s) → (object tail : Bytes) → ServerAt o object tail
-      → (ts : List Turn) → AllDid ts s (start o (view s) object tail) → Q (ran ts (start o (view s) object tail))
+      (o : Opening) (s : S) → Valid s → opens o ≡ opened (view s) → (k : Stored) → ServerAt o k
+      → (ts : List Turn) → AllDid ts s (start o (view s) k) → Q (ran ts (start o (view s) k))

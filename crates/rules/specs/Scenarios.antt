@@ -1,17 +1,18 @@
--- Two runs that show that the rules can be met: from accepted openings, under the server rules at opening, so that demand 3 speaks of them.
+-- Runs that show that the rules can be met: from accepted openings, under the server rules at opening, so that demand 3 speaks of them.
 use mathlib.Core.Path.{_≡_, refl}
 use mathlib.Core.Bool.{true, false}
 use mathlib.Core.Option.{none, some}
 use mathlib.Core.List.{List, [], _∷_, _++_}
 use Prim.Native.Nat.{ℕ}
+use lib.ListN.{take}
 use lib.IntN.{pos}
 use Rattle.crc32c.specs.Reg.{crcOf}
 use Rattle.rules.specs.Message.{Bytes, Generation, Break, endOfStream, status, otherError}
 use Rattle.rules.specs.Spec.{appendForm}
-use Rattle.rules.specs.Session.{finished, exhausted, Phase, connecting, ended, Call, append, flush, finalise, nextRequest, sendFailed, break, judge, failedAttempt}
+use Rattle.rules.specs.Session.{finished, alreadyFinalized, exhausted, Phase, connecting, ended, Call, append, flush, finalise, nextRequest, sendFailed, break, judge, failedAttempt}
 use Rattle.rules.specs.Opening.{Opening, opened, bucketPrefix, openSession, opens}
-use Rattle.rules.specs.Server.{alone, inResource}
-use Rattle.rules.specs.World.{World, Event, hostCalls, hostHands, hostGreets, serverTakes, serverPersists, serverSays, linkCuts, runs, ServerAt, start}
+use Rattle.rules.specs.Server.{Stored, alone, inResource}
+use Rattle.rules.specs.World.{World, Event, hostCalls, hostHands, hostSends, hostGreets, serverTakes, serverPersists, serverSays, linkCuts, runs, ServerAt, start}
 use Rattle.rules.specs.Points.{opening, sized}
 use Rattle.rules.specs.Computed.{computed}
 
@@ -51,7 +52,10 @@ pub takeOver-accepted : opens takeOver ≡ opened (openSession takeOver)
 unfolding computed
 takeOver-accepted = refl
 
-pub takeOver-server : ServerAt takeOver ab []
+abbrev pub taken : Stored
+taken = record { object = ab; tail = []; finalised = false }
+
+pub takeOver-server : ServerAt takeOver taken
 takeOver-server = record { size = refl; together = refl; summed = λ e sum f. cc }
 
 -- the host calls, and sends what it is handed
@@ -95,11 +99,11 @@ fifth =
     ∷ serverSays (some (inResource generation true)) none ∷ hostHands true false ∷ does (break endOfStream) ∷ [])
 
 abbrev pub uploaded : List Event → World
-uploaded es = runs es (start takeOver (openSession takeOver) ab [])
+uploaded es = runs es (start takeOver (openSession takeOver) taken)
 
 -- the present connection was cut, and something was lost
 abbrev pub Broken : World → Type 0
-Broken w = (w .server .alive ≡ false) × (w .server .lossless ≡ false)
+Broken w = (w .server .link .alive ≡ false) × (w .server .link .lossless ≡ false)
 
 pub first-breaks : Broken (uploaded first)
 unfolding computed
@@ -116,9 +120,9 @@ unfolding computed
 handshake-completes = (refl, refl)
 
 pub record Uploaded (w : World) : Type 0 where
-  pub object : w .server .object ≡ abcdefgh
+  pub object : w .server .stored .object ≡ abcdefgh
   pub all : w .notes .all ≡ abcdefgh
-  pub finalised : w .server .finalised ≡ true
+  pub finalised : w .server .stored .finalised ≡ true
   pub completed : w .notes .completed ≡ 2
   pub phase : w .session .phase ≡ ended finished
 
@@ -138,7 +142,10 @@ pub payload-accepted : opens payload ≡ opened (openSession payload)
 unfolding computed
 payload-accepted = refl
 
-pub payload-server : ServerAt payload (97 ∷ []) (98 ∷ 99 ∷ [])
+abbrev pub begun : Stored
+begun = record { object = 97 ∷ []; tail = 98 ∷ 99 ∷ []; finalised = false }
+
+pub payload-server : ServerAt payload begun
 payload-server = record { size = refl; together = refl; summed = λ e sum f. cc }
 
 -- Aborted, with this token
@@ -158,7 +165,7 @@ abbrev pub progressed : List Event
 progressed = serverTakes 0 0 ∷ serverPersists 2 ∷ serverSays (some alone) none ∷ hostHands true false ∷ []
 
 abbrev pub redirected : List Event → World
-redirected between = runs (redirects between) (start payload (openSession payload) (97 ∷ []) (98 ∷ 99 ∷ []))
+redirected between = runs (redirects between) (start payload (openSession payload) begun)
 
 pub record Redirected (w : World) (phase : Phase) (followed : ℕ) : Type 0 where
   pub phase-is : w .session .phase ≡ phase
@@ -175,3 +182,37 @@ fourth-ends = record { phase-is = refl; followed-are = refl; attempts-are = refl
 pub progress-zeroes : Redirected (redirected progressed) connecting 2
 unfolding computed
 progress-zeroes = record { phase-is = refl; followed-are = refl; attempts-are = refl; token-is = refl }
+
+-- ---- (iii) requests sent out of their turn, from the object "ab"
+
+-- cdef is not sent when it is handed out, but later: the server takes it
+abbrev pub later : List Event
+later = hostCalls (append (99 ∷ 100 ∷ 101 ∷ 102 ∷ []) 4) false ∷ hostSends 0 ∷ serverTakes 0 0 ∷ []
+
+pub later-joins : ((uploaded later) .server .stored .tail ≡ 99 ∷ 100 ∷ 101 ∷ 102 ∷ [])
+    × ((uploaded later) .server .link .alive ≡ true) × ((uploaded later) .server .link .lossless ≡ false)
+unfolding computed
+later-joins = (refl, refl, refl)
+
+-- on the next connection it is sent again, while the server has all of it: the server cuts. There is no second request to send.
+abbrev pub again : List Event
+again = serverPersists 4 ∷ (goesOn ++ (hostSends 0 ∷ hostSends 1 ∷ serverTakes 0 0 ∷ []))
+
+pub again-breaks : Broken (uploaded (later ++ again)) × ((uploaded (later ++ again)) .server .stored .object ≡ take 6 abcdefgh)
+unfolding computed
+again-breaks = ((refl, refl), refl)
+
+-- ---- (iv) an object that is finalised when it is taken over: the opening does not say so, the next message does
+
+abbrev pub final : Stored
+final = record { object = ab; tail = []; finalised = true }
+
+pub final-server : ServerAt takeOver final
+final-server = record { size = refl; together = refl; summed = λ e sum f. cc }
+
+abbrev pub told : World
+told = runs (serverSays (some (inResource generation true)) none ∷ hostHands true false ∷ []) (start takeOver (openSession takeOver) final)
+
+pub final-ends : told .session .phase ≡ ended alreadyFinalized
+unfolding computed
+final-ends = refl

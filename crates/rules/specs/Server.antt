@@ -1,4 +1,4 @@
--- "Server rules for demand 3": the server and the present connection.
+-- "Server rules for demand 3": what the server has stored, and the link, which is the present connection.
 use mathlib.Core.Bool.{Bool, true, false, cond, _&&_}
 use mathlib.Core.Option.{Option, none, some}
 use mathlib.Core.List.{List, [], _∷_, _++_}
@@ -9,71 +9,61 @@ use lib.IntN.{ℤ, pos, negsuc}
 use Rattle.crc32c.specs.Reg.{crcOf}
 use Rattle.rules.specs.Message.{Bytes, Generation, ChecksummedData, Request, WriteStatus, persistedSize, resource, Response}
 
-pub record Server : Type 0 where
-  -- "The server holds persisted bytes (the object) and a tail."
+-- "The server holds persisted bytes (the object) and a tail."
+pub record Stored : Type 0 where
   pub object : Bytes
   pub tail : Bytes
   pub finalised : Bool
-  -- the present connection: requests that the server has not taken, messages that the host has not handed on
+
+-- requests that the server has not taken, messages that the host has not handed on
+pub record Link : Type 0 where
   pub requests : List Request
   pub messages : List Response
   -- not cut
   pub alive : Bool
-  -- it has lost nothing, and every request was sent on it
+  -- it has lost nothing, and every request was sent on it, once and when it was handed out
   pub lossless : Bool
 
--- ---- the connection
+pub record Server : Type 0 where
+  pub stored : Stored
+  pub link : Link
 
-abbrev pub setRequests : List Request → Server → Server
-setRequests r v = record {
-  object = v .object;
-  tail = v .tail;
-  finalised = v .finalised;
-  requests = r;
-  messages = v .messages;
-  alive = v .alive;
-  lossless = v .lossless;
-}
+-- ---- the link
 
-abbrev pub setMessages : List Response → Server → Server
-setMessages m v = record {
-  object = v .object;
-  tail = v .tail;
-  finalised = v .finalised;
-  requests = v .requests;
-  messages = m;
-  alive = v .alive;
-  lossless = v .lossless;
-}
+abbrev pub setRequests : List Request → Link → Link
+setRequests r l = record { requests = r; messages = l .messages; alive = l .alive; lossless = l .lossless }
+
+abbrev pub setMessages : List Response → Link → Link
+setMessages m l = record { requests = l .requests; messages = m; alive = l .alive; lossless = l .lossless }
+
+-- something was lost, or not sent in its turn
+abbrev pub loses : Link → Link
+loses l = record { requests = l .requests; messages = l .messages; alive = l .alive; lossless = false }
+
+-- what is sent on a connection that was cut is lost with it
+abbrev pub carries : Request → Link → Link
+carries r l = setRequests (cond (l .alive) (l .requests ++ (r ∷ [])) (l .requests)) l
+
+abbrev pub onLink : (Link → Link) → Server → Server
+onLink f v = record { stored = v .stored; link = f (v .link) }
+
+abbrev pub onStored : (Stored → Stored) → Server → Server
+onStored f v = record { stored = f (v .stored); link = v .link }
 
 -- the connection is cut. "which loses every message not yet taken and any end of the tail, from none of it to all, but no persisted byte": so many
 -- bytes of the tail stay, and of the messages only so many as the host already has
 abbrev pub cutOff : ℕ → ℕ → Server → Server
 cutOff bytes had v = record {
-  object = v .object;
-  tail = take bytes (v .tail);
-  finalised = v .finalised;
-  requests = [];
-  messages = take had (v .messages);
-  alive = false;
-  lossless = v .lossless;
-}
-
--- something was lost, or not sent
-abbrev pub loses : Server → Server
-loses v = record {
-  object = v .object;
-  tail = v .tail;
-  finalised = v .finalised;
-  requests = v .requests;
-  messages = v .messages;
-  alive = v .alive;
-  lossless = false;
+  stored = record { object = v .stored .object; tail = take bytes (v .stored .tail); finalised = v .stored .finalised };
+  link = record { requests = []; messages = take had (v .link .messages); alive = false; lossless = v .link .lossless };
 }
 
 -- "An accepted handshake begins the next connection, with no tail"
 abbrev pub connects : Server → Server
-connects v = record { object = v .object; tail = []; finalised = v .finalised; requests = []; messages = []; alive = true; lossless = true }
+connects v = record {
+  stored = record { object = v .stored .object; tail = []; finalised = v .stored .finalised };
+  link = record { requests = []; messages = []; alive = true; lossless = true };
+}
 
 -- ---- a request is taken
 
@@ -88,31 +78,15 @@ isSum (some sum) b = eqb sum (crcOf b)
 -- "A chunk joins the tail if its offset is the end of both and its sum is right, else the connection is cut."
 abbrev pub takesChunk : ℤ → ChecksummedData → ℕ → ℕ → Server → Server
 takesChunk at d bytes had v =
-    cond (isAt at (v .object ++ v .tail) && eqb (d .crc32c) (crcOf (d .content)))
-    (record {
-      object = v .object;
-      tail = v .tail ++ d .content;
-      finalised = v .finalised;
-      requests = v .requests;
-      messages = v .messages;
-      alive = v .alive;
-      lossless = v .lossless;
-    })
+    cond (isAt at (v .stored .object ++ v .stored .tail) && eqb (d .crc32c) (crcOf (d .content)))
+    (onStored (λ k. record { object = k .object; tail = k .tail ++ d .content; finalised = k .finalised }) v)
     (cutOff bytes had v)
 
 -- "finish, which persists all and finalises if offset and a given sum are right, else cuts"
 abbrev pub takesFinish : ℤ → Option ℕ → ℕ → ℕ → Server → Server
 takesFinish at sum bytes had v =
-    cond (isAt at (v .object ++ v .tail) && isSum sum (v .object ++ v .tail))
-    (record {
-      object = v .object ++ v .tail;
-      tail = [];
-      finalised = true;
-      requests = v .requests;
-      messages = v .messages;
-      alive = v .alive;
-      lossless = v .lossless;
-    })
+    cond (isAt at (v .stored .object ++ v .stored .tail) && isSum sum (v .stored .object ++ v .stored .tail))
+    (onStored (λ k. record { object = k .object ++ k .tail; tail = []; finalised = true }) v)
     (cutOff bytes had v)
 
 -- "A request without data has its offset checked only with finish"
@@ -123,19 +97,11 @@ takesOne r (some d) bytes had v = takesChunk (r .writeOffset) d bytes had v
 -- the next request, if there is one; if that cuts the connection, so much stays as `cutOff` says
 abbrev pub takesNext : List Request → ℕ → ℕ → Server → Server
 takesNext [] bytes had v = v
-takesNext (r ∷ rest) bytes had v = takesOne r (r .checksummedData) bytes had (setRequests rest v)
+takesNext (r ∷ rest) bytes had v = takesOne r (r .checksummedData) bytes had (onLink (setRequests rest) v)
 
 -- "Any front part of the tail may become persisted."
-abbrev pub persists : ℕ → Server → Server
-persists n v = record {
-  object = v .object ++ take n (v .tail);
-  tail = drop n (v .tail);
-  finalised = v .finalised;
-  requests = v .requests;
-  messages = v .messages;
-  alive = v .alive;
-  lossless = v .lossless;
-}
+abbrev pub persists : ℕ → Stored → Stored
+persists n k = record { object = k .object ++ take n (k .tail); tail = drop n (k .tail); finalised = k .finalised }
 
 -- ---- what the server states
 
@@ -145,11 +111,11 @@ pub data Told : Type 0 where
   inResource : Generation → Bool → Told
 
 -- "Every stated size is true when sent, and a message is finalised only once the object is."
-abbrev pub states : Told → Server → WriteStatus
-states alone v = persistedSize (pos (length (v .object)))
-states (inResource g marked) v = resource (pos (length (v .object))) g (marked && v .finalised)
+abbrev pub states : Told → Stored → WriteStatus
+states alone k = persistedSize (pos (length (k .object)))
+states (inResource g marked) k = resource (pos (length (k .object))) g (marked && k .finalised)
 
 -- a message may state nothing
-abbrev pub says : Option Told → Option Bytes → Server → Response
-says none handle v = record { writeStatus = none; writeHandle = handle }
-says (some t) handle v = record { writeStatus = some (states t v); writeHandle = handle }
+abbrev pub says : Option Told → Option Bytes → Stored → Response
+says none handle k = record { writeStatus = none; writeHandle = handle }
+says (some t) handle k = record { writeStatus = some (states t k); writeHandle = handle }

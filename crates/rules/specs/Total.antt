@@ -9,6 +9,7 @@ use Rattle.rules.specs.Message.{Bytes}
 use Rattle.rules.specs.Session.{Session, Call, stored}
 use Rattle.rules.specs.Step.{step}
 use Rattle.rules.specs.Opening.{Opening, opened, opens}
+use Rattle.rules.specs.Server.{Stored}
 use Rattle.rules.specs.World.{World, Event, runs, ServerAt, start}
 
 -- the offset of the first byte taken since opening, "payload counted as taken"
@@ -24,8 +25,8 @@ pub record Total (from : ℕ) (w : World) : Type 0 where
 
 abbrev pub ByteTotal : Type 0
 ByteTotal =
-    (o : Opening) (s : Session) → opens o ≡ opened s → (object tail : Bytes) → ServerAt o object tail
-    → (es : List Event) → Total (firstTaken (o .payload) object) (runs es (start o s object tail))
+    (o : Opening) (s : Session) → opens o ≡ opened s → (k : Stored) → ServerAt o k
+    → (es : List Event) → Total (firstTaken (o .payload) (k .object)) (runs es (start o s k))
 
 -- the session after a list of calls, whatever they bring
 unfoldable pub afterCalls : List Call → Session → Session

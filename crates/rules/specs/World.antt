@@ -4,14 +4,14 @@ use mathlib.Core.Bool.{Bool, true, false, not, cond, _&&_}
 use mathlib.Core.Option.{Option, none, some}
 use mathlib.Core.List.{List, [], _∷_, _++_}
 use Prim.Native.Nat.{ℕ}
-use lib.ListN.{length}
+use lib.ListN.{length, getElem?}
 use lib.IntN.{pos}
 use Rattle.crc32c.specs.Reg.{crcOf}
 use Rattle.rules.specs.Message.{Bytes, Request, Response}
 use Rattle.rules.specs.Session.{Session, Call, append, flush, finalise, nextRequest, close, sendFailed, response, handshake, break, judge, failedAttempt, Answer, Result}
 use Rattle.rules.specs.Step.{step}
 use Rattle.rules.specs.Opening.{Opening, openSize}
-use Rattle.rules.specs.Server.{Server, setRequests, setMessages, cutOff, loses, connects, takesNext, persists, Told, says}
+use Rattle.rules.specs.Server.{Stored, Link, Server, setMessages, loses, carries, onLink, onStored, cutOff, connects, takesNext, persists, Told, says}
 use Rattle.rules.specs.Notes.{Notes, accepted, requestIn, note}
 
 pub record World : Type 0 where
@@ -21,26 +21,25 @@ pub record World : Type 0 where
 
 -- ---- a call
 
--- The host "sends each request once, on the present connection, or reports it failed": `sent` says whether it could send. What is sent on a
--- connection that was cut is lost with it.
-abbrev pub sending : Bool → Option Request → Server → Server
-sending sent none v = v
-sending true (some r) v = setRequests (cond (v .alive) (v .requests ++ (r ∷ [])) (v .requests)) v
-sending false (some r) v = loses v
+-- The host "sends each request once, on the present connection, or reports it failed": `sent` says whether it could send.
+abbrev pub sending : Bool → Option Request → Link → Link
+sending sent none l = l
+sending true (some r) l = carries r l
+sending false (some r) l = loses l
 
 -- what an answer does to the connection
 abbrev pub onAnswer : Call → Bool → Answer → Server → Server
-onAnswer (append d out) sent a v = sending sent (requestIn a) v
-onAnswer (flush out) sent a v = sending sent (requestIn a) v
-onAnswer (finalise out) sent a v = sending sent (requestIn a) v
-onAnswer (nextRequest out) sent a v = sending sent (requestIn a) v
-onAnswer close sent a v = sending sent (requestIn a) v
-onAnswer sendFailed sent a v = cond (accepted a) (loses v) v
-onAnswer (response m) sent a v = sending sent (requestIn a) v
+onAnswer (append d out) sent a v = onLink (sending sent (requestIn a)) v
+onAnswer (flush out) sent a v = onLink (sending sent (requestIn a)) v
+onAnswer (finalise out) sent a v = onLink (sending sent (requestIn a)) v
+onAnswer (nextRequest out) sent a v = onLink (sending sent (requestIn a)) v
+onAnswer close sent a v = onLink (sending sent (requestIn a)) v
+onAnswer sendFailed sent a v = cond (accepted a) (onLink loses v) v
+onAnswer (response m) sent a v = onLink (sending sent (requestIn a)) v
 onAnswer (handshake m) sent a v = cond (accepted a) (connects v) v
-onAnswer (break b) sent a v = sending sent (requestIn a) v
-onAnswer (judge k) sent a v = sending sent (requestIn a) v
-onAnswer (failedAttempt b k) sent a v = sending sent (requestIn a) v
+onAnswer (break b) sent a v = onLink (sending sent (requestIn a)) v
+onAnswer (judge k) sent a v = onLink (sending sent (requestIn a)) v
+onAnswer (failedAttempt b k) sent a v = onLink (sending sent (requestIn a)) v
 
 -- the world after the session gave r to the call c
 abbrev pub after : Call → Bool → World → Result → World
@@ -56,12 +55,20 @@ calls c sent w = after c sent w (step c (w .session))
 abbrev pub onServer : (Server → Server) → World → World
 onServer f w = record { session = w .session; server = f (w .server); notes = w .notes }
 
+abbrev pub onLine : (Link → Link) → World → World
+onLine f w = onServer (onLink f) w
+
+-- The host may send a request that it was handed later, or again. It then goes out of its turn, and the server may cut the connection for it.
+abbrev pub resends : Option Request → Link → Link
+resends none l = l
+resends (some r) l = loses (carries r l)
+
 -- the host hands on the next message, if there is one; one that was refused it may keep, to hand it on again
 abbrev pub handsOn : List Response → Bool → Bool → World → World
 handsOn [] sent keep w = w
 handsOn (m ∷ rest) sent keep w =
     let r = step (response m) (w .session) in
-    after (response m) sent (onServer (setMessages (cond (keep && not (accepted (r .answer))) (m ∷ rest) rest)) w) r
+    after (response m) sent (onLine (setMessages (cond (keep && not (accepted (r .answer))) (m ∷ rest) rest)) w) r
 
 -- ---- events
 
@@ -70,6 +77,8 @@ pub data Event : Type 0 where
   hostCalls : Call → Bool → Event
   -- the host hands on the connection's next message; whether a bare flush can be sent; whether it keeps a refused message
   hostHands : Bool → Bool → Event
+  -- the host sends a request on the present connection, later or again: the one with this number of all that it was handed
+  hostSends : ℕ → Event
   -- the host reports a handshake, "and states the true size"
   hostGreets : Told → Option Bytes → Event
   -- the server takes the next request; if it must cut the connection for it, what stays of tail and messages
@@ -95,12 +104,13 @@ unprompted (failedAttempt b v) = true
 
 unfoldable pub happens : Event → World → World
 happens (hostCalls c sent) w = cond (unprompted c) (calls c sent w) w
-happens (hostHands sent keep) w = handsOn (w .server .messages) sent keep w
-happens (hostGreets t handle) w = calls (handshake (says (some t) handle (w .server))) true w
-happens (serverTakes bytes had) w = onServer (takesNext (w .server .requests) bytes had) w
-happens (serverPersists n) w = onServer (persists n) w
-happens (serverSays t handle) w = cond (w .server .alive) (onServer (setMessages (w .server .messages ++ (says t handle (w .server) ∷ []))) w) w
-happens (linkCuts bytes had) w = onServer (λ v. loses (cutOff bytes had v)) w
+happens (hostHands sent keep) w = handsOn (w .server .link .messages) sent keep w
+happens (hostSends i) w = onLine (resends (getElem? (w .notes .handed) i)) w
+happens (hostGreets t handle) w = calls (handshake (says (some t) handle (w .server .stored))) true w
+happens (serverTakes bytes had) w = onServer (takesNext (w .server .link .requests) bytes had) w
+happens (serverPersists n) w = onServer (onStored (persists n)) w
+happens (serverSays t handle) w = cond (w .server .link .alive) (onLine (setMessages (w .server .link .messages ++ (says t handle (w .server .stored) ∷ []))) w) w
+happens (linkCuts bytes had) w = onServer (λ v. onLink loses (cutOff bytes had v)) w
 
 unfoldable pub runs : List Event → World → World
 runs [] w = w
@@ -114,18 +124,19 @@ baseOf none object = object
 baseOf (some b) object = b
 
 -- "At opening P is the true size; without a payload the tail is empty and an opening sum is the object's, with one the two together are the payload."
-pub record ServerAt (o : Opening) (object tail : Bytes) : Type 0 where
-  pub size : openSize o ≡ pos (length object)
-  pub together : object ++ tail ≡ baseOf (o .payload) object
-  pub summed : o .payload ≡ none → (sum : ℕ) → o .checksum ≡ some sum → sum ≡ crcOf object
+-- The object may be finalised already.
+pub record ServerAt (o : Opening) (k : Stored) : Type 0 where
+  pub size : openSize o ≡ pos (length (k .object))
+  pub together : k .object ++ k .tail ≡ baseOf (o .payload) (k .object)
+  pub summed : o .payload ≡ none → (sum : ℕ) → o .checksum ≡ some sum → sum ≡ crcOf (k .object)
 
-unfoldable pub start : Opening → Session → Bytes → Bytes → World
-start o s object tail = record {
+unfoldable pub start : Opening → Session → Stored → World
+start o s k = record {
   session = s;
-  server = record { object = object; tail = tail; finalised = false; requests = []; messages = []; alive = true; lossless = true };
+  server = record { stored = k; link = record { requests = []; messages = []; alive = true; lossless = true } };
   notes = record {
     limit = o .limit;
-    all = baseOf (o .payload) object;
+    all = baseOf (o .payload) (k .object);
     loose = 0;
     largest = openSize o;
     marks = [];

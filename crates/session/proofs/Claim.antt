@@ -75,16 +75,16 @@ opens-is : (b : Begun) → Begins b → opens (given b) ≡ opened (view (b .ope
 opens-is b g = accepted-is (g .promise) (g .accepted)
 
 pub host-demand3 : Always (λ o object w. Holds w)
-host-demand3 b g object tail v ts d =
-    program.program-demand3 (given b) (first b) (valid b g) (opens-is b g) object tail v ts (all-did ts _ _ d)
+host-demand3 b g k v ts d =
+    program.program-demand3 (given b) (first b) (valid b g) (opens-is b g) k v ts (all-did ts _ _ d)
 
 pub host-beyond-demand3 : Always (λ o object w. HoldsBeyond w)
-host-beyond-demand3 b g object tail v ts d =
-    program.program-beyond-demand3 (given b) (first b) (valid b g) (opens-is b g) object tail v ts (all-did ts _ _ d)
+host-beyond-demand3 b g k v ts d =
+    program.program-beyond-demand3 (given b) (first b) (valid b g) (opens-is b g) k v ts (all-did ts _ _ d)
 
 pub host-byte-total : Always (λ o object w. total.Total (total.firstTaken (o .payload) object) w)
-host-byte-total b g object tail v ts d =
-    program.program-byte-total (given b) (first b) (valid b g) (opens-is b g) object tail v ts (all-did ts _ _ d)
+host-byte-total b g k v ts d =
+    program.program-byte-total (given b) (first b) (valid b g) (opens-is b g) k v ts (all-did ts _ _ d)
 
 pub host-stored-bound : StoredBound
 host-stored-bound b g ts d = program.program-stored-bound (given b) (first b) (valid b g) (opens-is b g) ts (all-called ts _ d)

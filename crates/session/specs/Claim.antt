@@ -7,6 +7,7 @@ use lib.ListN.{length}
 use Rattle.rules.specs.Message.{Bytes}
 use Rattle.rules.specs.Session as R
 use Rattle.rules.specs.Opening as O
+use Rattle.rules.specs.Server.{Stored}
 use Rattle.rules.specs.World.{World, ServerAt, start}
 use Rattle.rules.specs.Program.{callIn}
 use Rattle.transport.specs.View.{view}
@@ -73,14 +74,14 @@ given b = openingOf (b .opening) (b .beside) (length (b .store)) (length (b .tab
 abbrev pub first : Begun → Memory
 first b = record { session = b .opened .session; store = b .store′; table = b .table′ }
 
-abbrev pub begins : Begun → Bytes → Bytes → World
-begins b object tail = start (given b) (view (b .opened .session) (b .store′) (b .table′)) object tail
+abbrev pub begins : Begun → Stored → World
+begins b k = start (given b) (view (b .opened .session) (b .store′) (b .table′)) k
 
 -- Q holds after every opening that was accepted and every list of turns, under the server rules at opening
 abbrev pub Always : (O.Opening → Bytes → World → Type 0) → Type 0
 Always Q =
-    (b : Begun) → Begins b → (object tail : Bytes) → ServerAt (given b) object tail
-    → (ts : List Turn) → AllDid ts (first b) (begins b object tail) → Q (given b) object (ran ts (begins b object tail))
+    (b : Begun) → Begins b → (k : Stored) → ServerAt (given b) k
+    → (ts : List Turn) → AllDid ts (first b) (begins b k) → Q (given b) (k .object) (ran ts (begins b k))
 
 -- ---- for any input: calls alone, whatever they bring
 

@@ -39,17 +39,17 @@ ran-seen [] w = refl
 ran-seen (t ∷ ts) w = ran-seen ts (turned t w)
 
 pub program-demand3 : Always (λ o object w. Holds w)
-program-demand3 o m p a object tail v ts d =
-    subst Holds (ran-seen ts _) (rules.program-demand3 ValidAt viewOf o m p a object tail v (map seen ts) (all-seen ts m _ d))
+program-demand3 o m p a k v ts d =
+    subst Holds (ran-seen ts _) (rules.program-demand3 ValidAt viewOf o m p a k v (map seen ts) (all-seen ts m _ d))
 
 pub program-beyond-demand3 : Always (λ o object w. HoldsBeyond w)
-program-beyond-demand3 o m p a object tail v ts d =
-    subst HoldsBeyond (ran-seen ts _) (rules.program-beyond ValidAt viewOf o m p a object tail v (map seen ts) (all-seen ts m _ d))
+program-beyond-demand3 o m p a k v ts d =
+    subst HoldsBeyond (ran-seen ts _) (rules.program-beyond ValidAt viewOf o m p a k v (map seen ts) (all-seen ts m _ d))
 
 pub program-byte-total : Always (λ o object w. total.Total (total.firstTaken (o .payload) object) w)
-program-byte-total o m p a object tail v ts d =
+program-byte-total o m p a k v ts d =
     subst (total.Total (total.firstTaken (o .payload) object)) (ran-seen ts _)
-    (rules.program-byte-total ValidAt viewOf o m p a object tail v (map seen ts) (all-seen ts m _ d))
+    (rules.program-byte-total ValidAt viewOf o m p a k v (map seen ts) (all-seen ts m _ d))
 
 -- ---- for any input
 

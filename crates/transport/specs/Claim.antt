@@ -6,6 +6,7 @@ use Prim.Native.Nat.{ℕ, _+_, _-_, _≤_}
 use Rattle.rules.specs.Message.{Bytes}
 use Rattle.rules.specs.Session as R
 use Rattle.rules.specs.Opening.{Opening, opened, opens}
+use Rattle.rules.specs.Server.{Stored}
 use Rattle.rules.specs.World.{World, Event, ServerAt, start}
 use Rattle.rules.specs.Program.{callIn, withResult}
 use Rattle.transport.specs.View.{view, answerOf}
@@ -54,9 +55,9 @@ ran (t ∷ ts) w = ran ts (turned t w)
 abbrev pub Always : (Opening → Bytes → World → Type 0) → Type 0
 Always Q =
     (o : Opening) (m : Memory) → Valid (m .session) (m .store) (m .table) → opens o ≡ opened (view (m .session) (m .store) (m .table))
-    → (object tail : Bytes) → ServerAt o object tail → (ts : List Turn)
-    → AllDid ts m (start o (view (m .session) (m .store) (m .table)) object tail)
-    → Q o object (ran ts (start o (view (m .session) (m .store) (m .table)) object tail))
+    → (k : Stored) → ServerAt o k → (ts : List Turn)
+    → AllDid ts m (start o (view (m .session) (m .store) (m .table)) k)
+    → Q o (k .object) (ran ts (start o (view (m .session) (m .store) (m .table)) k))
 
 -- ---- for any input: calls alone, whatever they bring
 
