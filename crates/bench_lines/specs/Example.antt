@@ -11,8 +11,8 @@ use Rattle.rules.specs.Message.{Bytes, endOfStream}
 use Rattle.rules.specs.Session.{Session, Call, append, flush, finalise, nextRequest, close, sendFailed, response, handshake, break, judge, failedAttempt, Answer, refused, took, sends, waits, completes, attempt, ok, done, ends}
 use Rattle.rules.specs.Step.{step}
 use Rattle.rules.specs.Opening.{Opened, turnedAway, opened, opens}
-use Rattle.rules.specs.Points.{opening, sized}
-use Rattle.rules.specs.Computed.{computed}
+use Rattle.rules.specs.Bench.{sized, opening}
+use Rattle.rules.proofs.Evidence.Computed.{computed}
 use Rattle.text.specs.Ascii.{ascii}
 use Rattle.text.specs.Decimal.{number}
 use Rattle.bench_lines.specs.Text.{request, lineOf}

@@ -7,7 +7,7 @@ use Prim.Native.Nat.{ℕ}
 use lib.IntN.{ℤ}
 use Rattle.rules.specs.Message.{Bytes, Response}
 use Rattle.rules.specs.Opening as O
-use Rattle.rules.specs.Points.{opening, sized}
+use Rattle.rules.specs.Bench.{sized, opening}
 use Rattle.openings.specs.Opening.{OpensAs}
 use Rattle.openings.specs.declared.Opened.{Opened}
 use Rattle.bench_turns.specs.Turn.{Lent, Opens}

@@ -7,7 +7,7 @@ use lib.ListN.{length, drop}
 use lib.IntN.{ℤ}
 use Rattle.rules.specs.Message.{Bytes, endOfStream}
 use Rattle.rules.specs.Session as R
-use Rattle.rules.specs.Points.{opening, sized}
+use Rattle.rules.specs.Bench.{sized, opening}
 use Rattle.transport.specs.View.{answerOf}
 use Rattle.transport.specs.Promise.{Promise}
 use Rattle.transport.specs.declared.Answer.{Answer}

@@ -3,7 +3,7 @@ ghost use mathlib.Core.Path.{_≡_};
 ghost use mathlib.Core.Bool.{true, false, cond};
 ghost use mathlib.Core.List.{[]};
 ghost use Prim.Native.Nat.{ℕ};
-ghost use Rattle.rules.specs.Points.{sized as Points·sized};
+ghost use Rattle.rules.specs.Bench.{sized as Bench·sized};
 ghost use Rattle.rules.specs.Message.{Bytes};
 ghost use Rattle.bidi_write.specs.View.{responseOf, callOf as View·callOf};
 ghost use Rattle.transport.specs.View.{answerOf};
@@ -63,7 +63,7 @@ pub fn open(limit: usize, capacity: usize, p: Offset, store: &mut [u8], table: &
 
 // "Responses hold a size alone."
 fn sized(n: Offset) -> Response
-    ensures { λ r. ⌜ responseOf r [] ≡ Points·sized (n .0) ⌝ }
+    ensures { λ r. ⌜ responseOf r [] ≡ Bench·sized (n .0) ⌝ }
 {
     Response {
         write_status: WriteStatus::PersistedSize(n),

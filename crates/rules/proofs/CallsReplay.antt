@@ -22,7 +22,7 @@ use Rattle.rules.proofs.Lists.{choose-ind, unless-ind, opt-ind, all-get
 use Rattle.rules.proofs.Inv.{Right, Asked, Fit, goalAt, Inv}
 use Rattle.rules.proofs.Server.{right-bare, right-chunk, handed-none, handed-one, server-sends}
 use Rattle.rules.proofs.Flow.{fit-bare, fit-chunk, fit-asked, dataless-adds, flow-done, flow-sends}
-use Rattle.rules.proofs.Wait.{wait-phase, wait-final, wait-zero}
+use Rattle.rules.proofs.Wait.{wait-phase, wait-zero}
 use Rattle.rules.proofs.After.{Other}
 
 -- what the server has once it took what the replay handed out so far

@@ -7,13 +7,14 @@ use Prim.Native.Nat.{ℕ, _≤_, _<_}
 use lib.ListN.{length, take, drop}
 use lib.IntN.{ℤ, pos, negsuc}
 use Rattle.crc32c.specs.Reg.{crcOf}
+use Rattle.rules.specs.Lists.{All}
 use Rattle.rules.specs.Message.{Bytes, ChecksummedData, Request, Response, sizeOf, isFinalized}
 use Rattle.rules.specs.Session.{ReplayChunk, finalizing, PendingRequest, Cause, finished, regressed, alreadyFinalized, permanent, exhausted, givenUp, streamError, Phase, live, closing, connecting, verdict, replay, ended, Session, bytesOf, chunks, waiters, isEnded, isReplay}
 use Rattle.rules.specs.Replay.{place}
 use Rattle.rules.specs.Server.{Server}
 use Rattle.rules.specs.Notes.{Mark, Notes, contentOf}
 use Rattle.rules.specs.World.{World}
-use Rattle.rules.specs.Beyond.{All, RightFinish}
+use Rattle.rules.specs.Beyond.{RightFinish}
 use Rattle.rules.proofs.Lists.{Chain, Slice}
 
 -- ---- stored and held bytes

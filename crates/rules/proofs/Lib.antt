@@ -1,4 +1,4 @@
--- The proof of demand 3 and of what is stated beyond it, lowest first; then what holds of the rules by themselves.
+-- The proof of demand 3 and of what is stated beyond it, lowest first; then what holds of the rules by themselves, and runs of them.
 pub mod Tests
 pub mod Lists
 pub mod Inv
@@ -21,3 +21,4 @@ pub mod Program
 pub mod Bound
 pub mod Refused
 pub mod Push
+pub mod Evidence

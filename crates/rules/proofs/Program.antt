@@ -4,7 +4,7 @@ use mathlib.Core.Bool.{Bool, true, false, cond}
 use mathlib.Core.Option.{Option, none, some}
 use mathlib.Core.List.{List, [], _∷_}
 use Prim.Native.Nat.{ℕ}
-use Rattle.rules.specs.Message.{Bytes, Response}
+use Rattle.rules.specs.Message.{Response}
 use Rattle.rules.specs.Session.{Session, Call, response, handshake, Result, answers}
 use Rattle.rules.specs.Step.{step}
 use Rattle.rules.specs.Opening.{Opening, opened, opens}

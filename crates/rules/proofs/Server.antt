@@ -10,12 +10,12 @@ use lib.IntN.{ℤ, pos, negsuc}
 use lib.Dec.{eqb}
 use borrow.Author.Tests.{eqb-true}
 use Rattle.crc32c.specs.Reg.{crcOf}
+use Rattle.rules.specs.Lists.{All}
 use Rattle.rules.specs.Message.{Bytes, ChecksummedData, Request, Response, sizeOf}
 use Rattle.rules.specs.Session.{ReplayChunk}
 use Rattle.rules.specs.Upload.{chunkRequest}
 use Rattle.rules.specs.Server.{Server, setRequests, setMessages, loses, onLink, onStored, cutOff, connects, isAt, isSum, takesChunk, takesFinish, takesOne, takesNext, persists, Told, alone, inResource, says}
 use Rattle.rules.specs.World.{sending}
-use Rattle.rules.specs.Beyond.{All}
 use Rattle.rules.proofs.Tests.{never, clash, and-left, and-right}
 use Rattle.rules.proofs.Lists.{cond-ind, all-map, all-append, split-left, Slice, slice-grow, Part}
 use Rattle.rules.proofs.Inv.{Right, RightIf, HandedOK, AtLeast, least, Ascends, ServerOK}

@@ -10,12 +10,12 @@ use lib.IntN.{ℤ, pos}
 use lib.Signed.{leZ}
 use borrow.Author.Tests.{leb-true}
 use Rattle.crc32c.specs.Reg.{crcOf}
+use Rattle.rules.specs.Lists.{All}
 use Rattle.rules.specs.Message.{Bytes}
 use Rattle.rules.specs.Session.{PendingKind, flushing, finalizing, PendingRequest, Session}
 use Rattle.rules.specs.Upload.{requestFor, isFinalizing, waiterOf}
 use Rattle.rules.specs.Respond.{wants, isSatisfied, satisfied}
 use Rattle.rules.specs.Notes.{Mark}
-use Rattle.rules.specs.Beyond.{All}
 use Rattle.rules.proofs.Tests.{never, clash, and-left, and-right, or-left, or-right}
 use Rattle.rules.proofs.Lists.{cond-ind, all-map, all-append}
 use Rattle.rules.proofs.Inv.{Asked, Pairs, Final, Completed, WaitOK}

@@ -3,11 +3,11 @@ use mathlib.Core.Path.{_≡_}
 use mathlib.Core.Logic.{_≢_}
 use mathlib.Core.Bool.{true}
 use mathlib.Core.Option.{some}
-use mathlib.Core.List.{List, [], _∷_}
 use Prim.Native.Nat.{ℕ, _<_}
 use lib.ListN.{length, take, drop, getElem?}
 use lib.IntN.{pos}
 use Rattle.crc32c.specs.Reg.{crcOf}
+use Rattle.rules.specs.Lists.{All}
 use Rattle.rules.specs.Message.{Bytes, ChecksummedData, Request}
 use Rattle.rules.specs.Session.{finalizing, regressed, ended}
 use Rattle.rules.specs.Notes.{Mark}
@@ -29,10 +29,6 @@ pub record RightFinish (W : Bytes) (r : Request) : Type 0 where
 pub record RightRequest (W : Bytes) (r : Request) : Type 0 where
   pub chunk : (d : ChecksummedData) → r .checksummedData ≡ some d → RightChunk W r d
   pub finish : r .finishWrite ≡ true → RightFinish W r
-
-abbrev pub All {ℓ} : {A : Type ℓ} → (A → Type 0) → List A → Type 0
-All Q [] = Unit {0}
-All Q (x ∷ xs) = Q x × All Q xs
 
 pub record HoldsBeyond (w : World) : Type 0 where
   -- (a) every request ever handed out is right, trimmed chunks too

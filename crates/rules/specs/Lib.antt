@@ -1,6 +1,7 @@
 -- Document 01 as definitions, in an order in which they can be read; docs/PAPER.md leads from the paper's sentences to them.
 -- The session and its step rules
 pub mod Limits
+pub mod Lists
 pub mod Message
 pub mod Spec
 pub mod Session
@@ -19,9 +20,4 @@ pub mod Beyond
 pub mod Total
 pub mod Program
 pub mod Push
--- what the paper marks and shows, computed
-pub mod Computed
-pub mod Points
-pub mod Refusals
-pub mod Cases
-pub mod Scenarios
+pub mod Bench

@@ -6,13 +6,14 @@ use mathlib.Core.List.{List, [], _∷_, _++_}
 use Prim.Native.Nat.{ℕ, _-_, _^_}
 use lib.ListN.{replicate}
 use lib.IntN.{pos}
+use Rattle.rules.specs.Lists.{All}
 use Rattle.rules.specs.Message.{Bytes, endOfStream, status, resource}
 use Rattle.rules.specs.Spec.{writeForm}
 use Rattle.rules.specs.Session.{Call, append, flush, finalise, response, handshake, break, judge, failedAttempt, refused}
 use Rattle.rules.specs.Opening.{Opening, turnedAway, opens, bucketPrefix}
-use Rattle.rules.specs.Beyond.{All}
-use Rattle.rules.specs.Points.{Row, row, Met, sized, after, to, at}
-use Rattle.rules.specs.Computed.{computed}
+use Rattle.rules.specs.Bench.{sized}
+use Rattle.rules.proofs.Evidence.Computed.{computed}
+use Rattle.rules.proofs.Evidence.Table.{Row, row, Met, after, to, at}
 
 -- C, store and slots, the bucket's name, the length of the payload, P, whether the response is finalised; capacity 9
 abbrev opening : ℕ → ℕ → ℕ → Bytes → ℕ → ℕ → Bool → Opening

@@ -6,14 +6,15 @@ use mathlib.Core.List.{List, [], _∷_, map}
 use Prim.Native.Nat.{ℕ}
 use lib.IntN.{pos}
 use Rattle.crc32c.specs.Reg.{crcOf}
+use Rattle.rules.specs.Lists.{All}
 use Rattle.rules.specs.Message.{Bytes, Generation, Break, endOfStream, status, otherError, resource, Response}
 use Rattle.rules.specs.Spec.{AppendObjectSpec}
 use Rattle.rules.specs.Session.{ReplayChunk, finished, alreadyFinalized, givenUp, streamError, Session, Call, append, flush, finalise, close, sendFailed, response, break, judge, refused, completes, attempt, ok, ends, chunks, stored}
 use Rattle.rules.specs.Upload.{flushRequest}
 use Rattle.rules.specs.Push.{sliced, push}
-use Rattle.rules.specs.Beyond.{All}
-use Rattle.rules.specs.Points.{Row, row, Met, sized, after, to, at, redirection}
-use Rattle.rules.specs.Computed.{computed}
+use Rattle.rules.specs.Bench.{sized}
+use Rattle.rules.proofs.Evidence.Computed.{computed}
+use Rattle.rules.proofs.Evidence.Table.{Row, row, Met, after, to, at, redirection}
 
 abbrev finalisedAt : ℕ → Response
 finalisedAt n = record { writeStatus = some (resource (pos n) (record { number = pos 1 }) true); writeHandle = none }

@@ -13,8 +13,8 @@ use Rattle.rules.specs.Session.{finished, alreadyFinalized, exhausted, P
 use Rattle.rules.specs.Opening.{Opening, opened, bucketPrefix, openSession, opens}
 use Rattle.rules.specs.Server.{Stored, alone, inResource}
 use Rattle.rules.specs.World.{World, Event, hostCalls, hostHands, hostSends, hostGreets, serverTakes, serverPersists, serverSays, linkCuts, runs, ServerAt, start}
-use Rattle.rules.specs.Points.{opening, sized}
-use Rattle.rules.specs.Computed.{computed}
+use Rattle.rules.specs.Bench.{sized, opening}
+use Rattle.rules.proofs.Evidence.Computed.{computed}
 
 -- ---- (i) a take-over of the object "ab": a cut inside a chunk, a trim, replays, a flush completed by a handshake, a finalise completed
 
