@@ -2,13 +2,14 @@
 -- split finds its result by place and need not look through `after`. Then what a phase's test tells.
 use mathlib.Core.Path.{_≡_, refl, ap, _∙_}
 use mathlib.Core.Bool.{Bool, false, not, cond, _||_}
+use mathlib.Core.Option.{none, some}
 use Prim.Native.Nat.{ℕ}
 use lib.Dec.{eqb}
 use borrow.Author.Tests.{eqb-true, not-false}
 use Rattle.rules.specs.Message.{Bytes}
-use Rattle.rules.specs.Session.{PendingKind, Phase, live, closing, connecting, verdict, replay, ended, Session, Result, phaseNumber, isLive, isClosing, isReplay, closed}
+use Rattle.rules.specs.Session.{PendingKind, Phase, live, closing, connecting, verdict, replay, ended, Session, append, Result, phaseNumber, isLive, isClosing, isReplay, closed}
 use Rattle.rules.specs.Server.{loses, onLink}
-use Rattle.rules.specs.Notes.{accepted, requestIn, noteAppend, noteAsk, noteOther}
+use Rattle.rules.specs.Notes.{Brings, shows, accepted, requestIn, plain, brings, noted}
 use Rattle.rules.specs.World.{World, sending}
 use Rattle.rules.proofs.Tests.{never, or-no-right}
 use Rattle.rules.proofs.Lists.{cond-ind}
@@ -18,28 +19,31 @@ abbrev pub afterAppend : Bytes → Bool → World → Result → World
 afterAppend d could w r = record {
   session = r .session;
   server = onLink (sending could (requestIn (r .answer))) (w .server);
-  notes = cond (accepted (r .answer)) (noteAppend d (r .answer) (w .notes)) (w .notes);
+  notes = cond (accepted (r .answer)) (noted (brings (append d 0)) (shows (r .answer)) (w .notes)) (w .notes);
 }
+
+abbrev pub asking : PendingKind → Brings
+asking k = record { bytes = none; kind = some k; message = false; size = none; handshake = false; failure = false }
 
 abbrev pub afterAsk : PendingKind → Bool → World → Result → World
 afterAsk k could w r = record {
   session = r .session;
   server = onLink (sending could (requestIn (r .answer))) (w .server);
-  notes = cond (accepted (r .answer)) (noteAsk k (r .answer) (w .notes)) (w .notes);
+  notes = cond (accepted (r .answer)) (noted (asking k) (shows (r .answer)) (w .notes)) (w .notes);
 }
 
 abbrev pub afterOther : Bool → World → Result → World
 afterOther could w r = record {
   session = r .session;
   server = onLink (sending could (requestIn (r .answer))) (w .server);
-  notes = cond (accepted (r .answer)) (noteOther (r .answer) (w .notes)) (w .notes);
+  notes = cond (accepted (r .answer)) (noted plain (shows (r .answer)) (w .notes)) (w .notes);
 }
 
 abbrev pub afterUnsent : World → Result → World
 afterUnsent w r = record {
   session = r .session;
   server = cond (accepted (r .answer)) (onLink loses (w .server)) (w .server);
-  notes = cond (accepted (r .answer)) (noteOther (r .answer) (w .notes)) (w .notes);
+  notes = cond (accepted (r .answer)) (noted plain (shows (r .answer)) (w .notes)) (w .notes);
 }
 
 pub record Appended (from : ℕ) (d : Bytes) (could : Bool) (w : World) (r : Result) : Type 0 where

@@ -11,7 +11,7 @@ use Rattle.rules.specs.Upload.{closes}
 use Rattle.rules.specs.Reconnect.{breaks, judges, fails, rerouted, onRedirect, ruling, ruled}
 use Rattle.rules.specs.Replay.{unsent}
 use Rattle.rules.specs.Step.{step}
-use Rattle.rules.specs.Notes.{noteOther}
+use Rattle.rules.specs.Notes.{shows, plain, noted}
 use Rattle.rules.specs.World.{World, calls}
 use Rattle.rules.proofs.Lists.{cond-ind, choose-ind, unless-ind}
 use Rattle.rules.proofs.Inv.{isRegress, isRegressed, Inv}
@@ -24,7 +24,7 @@ use Rattle.rules.proofs.After.{Other, Unsent, not-at, open-not-replay, 
 -- the session goes on in another phase, neither of them a replay
 quiet : {from : ℕ} {w : World} (ph : Phase) (mark : Bool) (c : Connector) → isEnded (w .session .phase) ≡ false → isReplay (w .session .phase) ≡ false
     → isReplay ph ≡ false → isRegressed ph ≡ false → Inv from w
-    → Inv from (record { session = setPhase ph nothing (setWorker (setConnector c (setMark mark (w .session .worker))) (w .session)); server = w .server; notes = noteOther ok (w .notes) })
+    → Inv from (record { session = setPhase ph nothing (setWorker (setConnector c (setMark mark (w .session .worker))) (w .session)); server = w .server; notes = noted plain (shows ok) (w .notes) })
 quiet {w} ph mark c e f g h i = record {
   K = i .K;
   p = i .p;

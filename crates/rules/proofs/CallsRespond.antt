@@ -14,7 +14,7 @@ use Rattle.rules.specs.Session.{Connector, alreadyFinalized, replay, Ses
 use Rattle.rules.specs.Respond.{ack, satisfied, absorbs, takes, bareRequest, lastStep, responds, toReplay, shakes}
 use Rattle.rules.specs.Step.{step}
 use Rattle.rules.specs.Server.{setMessages, onLink, connects, Told, alone, inResource, says}
-use Rattle.rules.specs.Notes.{accepted, requestIn, largestOf, noteResponse, noteHandshake}
+use Rattle.rules.specs.Notes.{shows, accepted, requestIn, Brings, largestOf, noted}
 use Rattle.rules.specs.World.{World, sending, calls, handsOn}
 use Rattle.rules.proofs.Tests.{never, and-right}
 use Rattle.rules.proofs.Lists.{cond-ind, choose-ind, unless-ind}
@@ -27,19 +27,23 @@ use Rattle.rules.proofs.After.{open-not-replay}
 
 -- ---- the world after a stated size o, by a message and by a handshake
 
+-- a response or a handshake with the size o
+abbrev saying : Option ℤ → Bool → Brings
+saying o greets = record { bytes = none; kind = none; message = true; size = o; handshake = greets; failure = false }
+
 -- kept: the messages if this one is kept, rest: if not
 record Stated (from : ℕ) (o : Option ℤ) (kept rest : List Response) (could keep : Bool) (w : World) (r : Result) : Type 0 where
   inv : Inv from (record {
     session = r .session;
     server = onLink (sending could (requestIn (r .answer))) (onLink (setMessages (cond (keep && not (accepted (r .answer))) kept rest)) (w .server));
-    notes = cond (accepted (r .answer)) (noteResponse o (r .answer) (w .notes)) (w .notes);
+    notes = cond (accepted (r .answer)) (noted (saying o false) (shows (r .answer)) (w .notes)) (w .notes);
   })
 
 record Greeted (from : ℕ) (o : Option ℤ) (w : World) (r : Result) : Type 0 where
   inv : Inv from (record {
     session = r .session;
     server = cond (accepted (r .answer)) (connects (w .server)) (w .server);
-    notes = cond (accepted (r .answer)) (noteHandshake o (r .answer) (w .notes)) (w .notes);
+    notes = cond (accepted (r .answer)) (noted (saying o true) (shows (r .answer)) (w .notes)) (w .notes);
   })
 
 -- the session as a response or a handshake leaves spec and mark

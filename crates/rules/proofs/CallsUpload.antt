@@ -1,8 +1,8 @@
 -- Append, flush and finalise keep the invariant.
-use mathlib.Core.Path.{_≡_, refl, sym, ap, _∙_, subst}
+use mathlib.Core.Path.{_≡_, refl, sym, ap, _∙_}
 use mathlib.Core.Bool.{Bool, true, false, cond, _||_}
 use mathlib.Core.Option.{none, some}
-use mathlib.Core.List.{List, [], _∷_, _++_, append-assoc, append-nil}
+use mathlib.Core.List.{[], _∷_, _++_, append-assoc, append-nil}
 use Prim.Native.Nat.{ℕ, suc, _+_, _-_, min}
 use native.Mathlib.Nat.{add-zero}
 use lib.ListN.{length, take, length-append}
@@ -15,11 +15,11 @@ use Rattle.rules.specs.Session.{PendingKind, flushing, finalizing, Sessi
 use Rattle.rules.specs.Upload.{chunkOf, cutRequest, cuts, room, holding, holds, appends, requestFor, isFinalizing, waiterOf, awaits, asks}
 use Rattle.rules.specs.Step.{step}
 use Rattle.rules.specs.Server.{onLink}
-use Rattle.rules.specs.Notes.{Mark, Notes, taken, looseAfter, contentOf}
+use Rattle.rules.specs.Notes.{Mark, Notes, contentOf, taken}
 use Rattle.rules.specs.World.{World, sending, calls}
 use Rattle.rules.proofs.Tests.{and-no, or-left}
 use Rattle.rules.proofs.Lists.{choose-ind, unless-ind, nil-of, Part}
-use Rattle.rules.proofs.Inv.{Right, Asked, BufferOK, WaitOK, stockOf, tallyOf, Inv}
+use Rattle.rules.proofs.Inv.{Right, Asked, BufferOK, stockOf, tallyOf, Inv}
 use Rattle.rules.proofs.Server.{right-chunk, handed-none, handed-one, handed-grow, handed-sent, server-grow, server-sent, server-sends}
 use Rattle.rules.proofs.Flow.{fit-chunk, fit-asked, dataless-adds, goal-off, flow-sends}
 use Rattle.rules.proofs.Wait.{wait-holds, wait-cuts, wait-new, wait-zero, asked-new, request-at}
@@ -28,13 +28,13 @@ use Rattle.rules.proofs.After.{Appended, AskedFor, not-at, not-sent}
 
 -- ---- a chunk is cut
 
-abbrev cutNotes : Bytes → ℕ → List Mark → Request → Notes → Notes
-cutNotes all loose marks r g = record {
+abbrev cutNotes : Bytes → ℕ → Request → Notes → Notes
+cutNotes all loose r g = record {
   limit = g .limit;
   all = all;
   loose = loose;
   largest = g .largest;
-  marks = marks;
+  marks = g .marks;
   completed = g .completed + 0;
   handed = g .handed ++ (r ∷ []);
   greeted = g .greeted;
@@ -42,22 +42,21 @@ cutNotes all loose marks r g = record {
   atDone = false;
 }
 
-cut-keeps : {from : ℕ} (could : Bool) (w : World) (i : Inv from w) (x all : Bytes) (loose : ℕ) (marks : List Mark)
+cut-keeps : {from : ℕ} (could : Bool) (w : World) (i : Inv from w) (x all : Bytes) (loose : ℕ)
     → w .session .worker .finalized ≡ false → isEnded (w .session .phase) ≡ false → isReplay (w .session .phase) ≡ false
-    → all ≡ i .K ++ x → loose ≡ 0 → marks ≡ w .notes .marks
+    → all ≡ i .K ++ x → loose ≡ 0
     → Inv from (record {
       session = cuts x (w .session);
       server = onLink (sending could (some (cutRequest x (w .session)))) (w .server);
-      notes = cutNotes all loose marks (cutRequest x (w .session)) (w .notes);
+      notes = cutNotes all loose (cutRequest x (w .session)) (w .notes);
     })
-cut-keeps {from} could w i x all loose marks f e o a l m = record {
+cut-keeps {from} could w i x all loose f e o a l = record {
   K = K ++ x;
   p = i .p;
   since = i .since;
   steady = i .steady;
   buffer = buffer-cuts x all loose a l (i .buffer);
-  wait = subst (λ (y : List Mark). WaitOK (K ++ x) (i .p) [] (s .worker .pendingRequests) (s .worker .finalized) (isEnded (s .phase)) y (w .notes .completed + 0) (w .server .stored .finalised))
-      (sym m) (wait-zero (wait-cuts x f (i .wait)));
+  wait = wait-zero (wait-cuts x f (i .wait));
   replays = replay-off o;
   server = server-sends could (some r) right (server-grow x f (i .server));
   flow = flow-sends could r K e (goal-off (i .p) (chunks s) (s .phase) o) (fit-chunk (chunkOf x s) _ (i .buffer .offset-is) refl)
@@ -88,8 +87,8 @@ asks-keeps {from} k out could w i =
     unless-ind (AskedFor from k could w) (w .session) _ _ (λ n. record { inv = i })
     (λ h. choose-ind (AskedFor from k could w) _ _ _
     (λ e. record {
-      inv = cut-keeps could w i (w .session .held) (w .notes .all) 0 _ (not-sent (w .session) (h .1 .0)) (h .0) (not-at 1 4 (w .session .phase) refl (h .1 .1 .0))
-          (i .buffer .all-is) refl (append-nil (w .notes .marks));
+      inv = cut-keeps could w i (w .session .held) (w .notes .all) 0 (not-sent (w .session) (h .1 .0)) (h .0) (not-at 1 4 (w .session .phase) refl (h .1 .1 .0))
+          (i .buffer .all-is) refl;
     })
     (λ e. waited (h .0) (not-at 1 4 (w .session .phase) refl (h .1 .1 .0)) (nil-of (w .session .held) e)))
   where
@@ -135,6 +134,9 @@ finalise-keeps out could w i = (asks-keeps finalizing out could w i) .inv
 -- ---- append
 
 -- the loose bytes after an append that comes to b of them
+abbrev looseAfter : ℕ → ℕ → ℕ
+looseAfter limit h = cond (leb limit h) 0 h
+
 after-full : (limit limit′ a b : ℕ) → limit ≡ limit′ → a ≡ b → leb limit′ b ≡ true → looseAfter limit a ≡ 0
 after-full limit limit′ a b d e f = ap (λ (x : ℕ). looseAfter x a) d ∙ ap (looseAfter limit′) e ∙ ap (λ (t : Bool). cond t 0 b) f
 
@@ -147,8 +149,8 @@ appends-keeps {from} d out could w i =
     unless-ind (Appended from d could w) (w .session) _ _ (λ n. record { inv = i })
     (λ h. choose-ind (Appended from d could w) _ _ _
     (λ e. record {
-      inv = cut-keeps could w i x _ _ (w .notes .marks) (not-sent (w .session) (h .1 .0)) (h .0) (not-at 1 4 (w .session .phase) refl (and-no e (h .1 .1 .0)))
-          all (after-full (w .notes .limit) (s .limit) _ _ (b .limit-is) len e) refl;
+      inv = cut-keeps could w i x _ _ (not-sent (w .session) (h .1 .0)) (h .0) (not-at 1 4 (w .session .phase) refl (and-no e (h .1 .1 .0)))
+          all (after-full (w .notes .limit) (s .limit) _ _ (b .limit-is) len e);
     })
     (λ e. record {
       inv = record {

@@ -1,6 +1,6 @@
 -- What demand 3 speaks of, noted by an onlooker from the calls and the answers alone.
 use mathlib.Core.Bool.{Bool, true, false, cond}
-use mathlib.Core.Option.{Option, none, some}
+use mathlib.Core.Option.{Option, none, some, Option·getD}
 use mathlib.Core.List.{List, [], _∷_, _++_}
 use Prim.Native.Nat.{ℕ, _+_, _-_, min}
 use lib.ListN.{length, take}
@@ -35,62 +35,33 @@ pub record Notes : Type 0 where
   pub carried : Bytes
   pub atDone : Bool
 
--- ---- answers
+-- ---- what an answer shows
+
+pub record Shows : Type 0 where
+  pub accepted : Bool
+  pub request : Option Request
+  -- the number of a waiter made; how many are reported completed
+  pub waiter : Option ℕ
+  pub completed : ℕ
+  -- the replay is done
+  pub isDone : Bool
+
+abbrev pub shows : Answer → Shows
+shows (refused n) = record { accepted = false; request = none; waiter = none; completed = 0; isDone = false }
+shows (took n r) = record { accepted = true; request = r; waiter = none; completed = 0; isDone = false }
+shows (sends r) = record { accepted = true; request = some r; waiter = none; completed = 0; isDone = false }
+shows (waits r n) = record { accepted = true; request = some r; waiter = some n; completed = 0; isDone = false }
+shows (completes k r) = record { accepted = true; request = r; waiter = none; completed = k; isDone = false }
+shows (attempt n) = record { accepted = true; request = none; waiter = none; completed = 0; isDone = false }
+shows ok = record { accepted = true; request = none; waiter = none; completed = 0; isDone = false }
+shows done = record { accepted = true; request = none; waiter = none; completed = 0; isDone = true }
+shows (ends c k f) = record { accepted = true; request = none; waiter = none; completed = k; isDone = false }
 
 abbrev pub accepted : Answer → Bool
-accepted (refused n) = false
-accepted (took n r) = true
-accepted (sends r) = true
-accepted (waits r n) = true
-accepted (completes k r) = true
-accepted (attempt n) = true
-accepted ok = true
-accepted done = true
-accepted (ends c k f) = true
+accepted a = (shows a) .accepted
 
 abbrev pub requestIn : Answer → Option Request
-requestIn (refused n) = none
-requestIn (took n r) = r
-requestIn (sends r) = some r
-requestIn (waits r n) = some r
-requestIn (completes k r) = r
-requestIn (attempt n) = none
-requestIn ok = none
-requestIn done = none
-requestIn (ends c k f) = none
-
-abbrev pub completedIn : Answer → ℕ
-completedIn (refused n) = 0
-completedIn (took n r) = 0
-completedIn (sends r) = 0
-completedIn (waits r n) = 0
-completedIn (completes k r) = k
-completedIn (attempt n) = 0
-completedIn ok = 0
-completedIn done = 0
-completedIn (ends c k f) = k
-
-abbrev pub isDone : Answer → Bool
-isDone (refused n) = false
-isDone (took n r) = false
-isDone (sends r) = false
-isDone (waits r n) = false
-isDone (completes k r) = false
-isDone (attempt n) = false
-isDone ok = false
-isDone done = true
-isDone (ends c k f) = false
-
-abbrev pub marksIn : Answer → Mark → List Mark
-marksIn (refused n) m = []
-marksIn (took n r) m = []
-marksIn (sends r) m = []
-marksIn (waits r n) m = m ∷ []
-marksIn (completes k r) m = []
-marksIn (attempt n) m = []
-marksIn ok m = []
-marksIn done m = []
-marksIn (ends c k f) m = []
+requestIn a = (shows a) .request
 
 abbrev pub listed : Option Request → List Request
 listed none = []
@@ -104,109 +75,75 @@ abbrev pub dataIn : Option Request → Bytes
 dataIn none = []
 dataIn (some r) = contentOf (r .checksummedData)
 
+-- ---- what a call brings
+
+pub record Brings : Type 0 where
+  -- of an append
+  pub bytes : Option Bytes
+  -- the kind of the waiter that is asked for
+  pub kind : Option PendingKind
+  -- a response or handshake, and the size that it states; a handshake; a send reported failed
+  pub message : Bool
+  pub size : Option ℤ
+  pub handshake : Bool
+  pub failure : Bool
+
+-- none of these
+abbrev pub plain : Brings
+plain = record { bytes = none; kind = none; message = false; size = none; handshake = false; failure = false }
+
+abbrev pub brings : Call → Brings
+brings (append d out) = record { bytes = some d; kind = none; message = false; size = none; handshake = false; failure = false }
+brings (flush out) = record { bytes = none; kind = some flushing; message = false; size = none; handshake = false; failure = false }
+brings (finalise out) = record { bytes = none; kind = some finalizing; message = false; size = none; handshake = false; failure = false }
+brings (nextRequest out) = plain
+brings close = plain
+brings sendFailed = record { bytes = none; kind = none; message = false; size = none; handshake = false; failure = true }
+brings (response m) = record { bytes = none; kind = none; message = true; size = sizeOf (m .writeStatus); handshake = false; failure = false }
+brings (handshake m) = record { bytes = none; kind = none; message = true; size = sizeOf (m .writeStatus); handshake = true; failure = false }
+brings (break b) = plain
+brings (judge v) = plain
+brings (failedAttempt b v) = plain
+
 -- ---- an accepted call is noted
 
 -- "the first t bytes of each accepted append, t the smaller of its length and C − h"
 abbrev pub taken : Bytes → Notes → Bytes
 taken d g = take (min (length d) (g .limit - g .loose)) d
 
--- "h ... grows by t, and goes back to 0 on reaching C"
-abbrev pub looseAfter : ℕ → ℕ → ℕ
-looseAfter limit h = cond (leb limit h) 0 h
+abbrev pub allWith : Option Bytes → Notes → Bytes
+allWith none g = g .all
+allWith (some d) g = g .all ++ taken d g
 
-abbrev pub noteAppend : Bytes → Answer → Notes → Notes
-noteAppend d a g = record {
-  limit = g .limit;
-  all = g .all ++ taken d g;
-  loose = looseAfter (g .limit) (g .loose + length (taken d g));
-  largest = g .largest;
-  marks = g .marks;
-  completed = g .completed + completedIn a;
-  handed = g .handed ++ listed (requestIn a);
-  greeted = g .greeted;
-  carried = g .carried ++ dataIn (requestIn a);
-  atDone = isDone a;
-}
+-- "h ... grows by t, and goes back to 0 on reaching C, and at an accepted flush or finalise"
+abbrev pub looseWith : Option Bytes → Option PendingKind → Notes → ℕ
+looseWith none none g = g .loose
+looseWith none (some k) g = 0
+looseWith (some d) k g = let h = g .loose + length (taken d g) in cond (leb (g .limit) h) 0 h
 
--- "and at an accepted flush or finalise"
-abbrev pub noteAsk : PendingKind → Answer → Notes → Notes
-noteAsk k a g = record {
-  limit = g .limit;
-  all = g .all;
-  loose = 0;
-  largest = g .largest;
-  marks = g .marks ++ marksIn a (record { kind = k; before = length (g .all) });
-  completed = g .completed + completedIn a;
-  handed = g .handed ++ listed (requestIn a);
-  greeted = g .greeted;
-  carried = g .carried ++ dataIn (requestIn a);
-  atDone = isDone a;
-}
+abbrev pub marksWith : Option PendingKind → Option ℕ → Notes → List Mark
+marksWith none n g = g .marks
+marksWith (some k) none g = g .marks
+marksWith (some k) (some n) g = g .marks ++ (record { kind = k; before = length (g .all) } ∷ [])
 
 abbrev pub largestOf : ℤ → Option ℤ → ℤ
 largestOf z none = z
 largestOf z (some n) = larger z n
 
--- o is the size that the response states
-abbrev pub noteResponse : Option ℤ → Answer → Notes → Notes
-noteResponse o a g = record {
+abbrev pub noted : Brings → Shows → Notes → Notes
+noted b a g = record {
   limit = g .limit;
-  all = g .all;
-  loose = g .loose;
-  largest = largestOf (g .largest) o;
-  marks = g .marks;
-  completed = g .completed + completedIn a;
-  handed = g .handed ++ listed (requestIn a);
-  greeted = g .greeted;
-  carried = g .carried ++ dataIn (requestIn a);
-  atDone = isDone a;
+  all = allWith (b .bytes) g;
+  loose = looseWith (b .bytes) (b .kind) g;
+  largest = largestOf (g .largest) (b .size);
+  marks = marksWith (b .kind) (a .waiter) g;
+  completed = g .completed + a .completed;
+  handed = g .handed ++ listed (a .request);
+  greeted = cond (b .handshake) (Option·getD (b .size) (g .greeted)) (g .greeted);
+  carried = cond (b .handshake) [] (g .carried ++ dataIn (a .request));
+  atDone = a .isDone;
 }
-
-abbrev pub greetedBy : ℤ → Option ℤ → ℤ
-greetedBy z none = z
-greetedBy z (some n) = n
-
-abbrev pub noteHandshake : Option ℤ → Answer → Notes → Notes
-noteHandshake o a g = record {
-  limit = g .limit;
-  all = g .all;
-  loose = g .loose;
-  largest = largestOf (g .largest) o;
-  marks = g .marks;
-  completed = g .completed + completedIn a;
-  handed = g .handed ++ listed (requestIn a);
-  greeted = greetedBy (g .greeted) o;
-  carried = [];
-  atDone = isDone a;
-}
-
-abbrev pub noteOther : Answer → Notes → Notes
-noteOther a g = record {
-  limit = g .limit;
-  all = g .all;
-  loose = g .loose;
-  largest = g .largest;
-  marks = g .marks;
-  completed = g .completed + completedIn a;
-  handed = g .handed ++ listed (requestIn a);
-  greeted = g .greeted;
-  carried = g .carried ++ dataIn (requestIn a);
-  atDone = isDone a;
-}
-
-abbrev pub noteCall : Call → Answer → Notes → Notes
-noteCall (append d out) a g = noteAppend d a g
-noteCall (flush out) a g = noteAsk flushing a g
-noteCall (finalise out) a g = noteAsk finalizing a g
-noteCall (nextRequest out) a g = noteOther a g
-noteCall close a g = noteOther a g
-noteCall sendFailed a g = noteOther a g
-noteCall (response m) a g = noteResponse (sizeOf (m .writeStatus)) a g
-noteCall (handshake m) a g = noteHandshake (sizeOf (m .writeStatus)) a g
-noteCall (break b) a g = noteOther a g
-noteCall (judge v) a g = noteOther a g
-noteCall (failedAttempt b v) a g = noteOther a g
 
 -- a refused call leaves the notes as they were
 abbrev pub note : Call → Answer → Notes → Notes
-note c a g = cond (accepted a) (noteCall c a g) g
+note c a g = cond (accepted a) (noted (brings c) (shows a) g) g

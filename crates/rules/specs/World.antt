@@ -8,11 +8,11 @@ use lib.ListN.{length, getElem?}
 use lib.IntN.{pos}
 use Rattle.crc32c.specs.Reg.{crcOf}
 use Rattle.rules.specs.Message.{Bytes, Request, Response}
-use Rattle.rules.specs.Session.{Session, Call, append, flush, finalise, nextRequest, close, sendFailed, response, handshake, break, judge, failedAttempt, Answer, Result}
+use Rattle.rules.specs.Session.{Session, Call, response, handshake, Answer, Result}
 use Rattle.rules.specs.Step.{step}
 use Rattle.rules.specs.Opening.{Opening, openSize}
 use Rattle.rules.specs.Server.{Stored, Link, Server, setMessages, loses, carries, onLink, onStored, cutOff, connects, takesNext, persists, Told, says}
-use Rattle.rules.specs.Notes.{Notes, accepted, requestIn, note}
+use Rattle.rules.specs.Notes.{Notes, accepted, requestIn, Brings, brings, note}
 
 pub record World : Type 0 where
   pub session : Session
@@ -28,24 +28,17 @@ sending true (some r) l = carries r l
 sending false (some r) l = loses l
 
 -- what an answer does to the connection
-abbrev pub onAnswer : Call → Bool → Answer → Server → Server
-onAnswer (append d out) sent a v = onLink (sending sent (requestIn a)) v
-onAnswer (flush out) sent a v = onLink (sending sent (requestIn a)) v
-onAnswer (finalise out) sent a v = onLink (sending sent (requestIn a)) v
-onAnswer (nextRequest out) sent a v = onLink (sending sent (requestIn a)) v
-onAnswer close sent a v = onLink (sending sent (requestIn a)) v
-onAnswer sendFailed sent a v = cond (accepted a) (onLink loses v) v
-onAnswer (response m) sent a v = onLink (sending sent (requestIn a)) v
-onAnswer (handshake m) sent a v = cond (accepted a) (connects v) v
-onAnswer (break b) sent a v = onLink (sending sent (requestIn a)) v
-onAnswer (judge k) sent a v = onLink (sending sent (requestIn a)) v
-onAnswer (failedAttempt b k) sent a v = onLink (sending sent (requestIn a)) v
+abbrev pub onAnswer : Brings → Bool → Answer → Server → Server
+onAnswer b sent a v =
+    cond (b .handshake) (cond (accepted a) (connects v) v)
+    (cond (b .failure) (cond (accepted a) (onLink loses v) v)
+    (onLink (sending sent (requestIn a)) v))
 
 -- the world after the session gave r to the call c
 abbrev pub after : Call → Bool → World → Result → World
 after c sent w r = record {
   session = r .session;
-  server = onAnswer c sent (r .answer) (w .server);
+  server = onAnswer (brings c) sent (r .answer) (w .server);
   notes = note c (r .answer) (w .notes);
 }
 
@@ -90,17 +83,7 @@ pub data Event : Type 0 where
 
 -- the calls that a host makes of its own accord: a response and a handshake bring what the server said
 abbrev pub unprompted : Call → Bool
-unprompted (append d out) = true
-unprompted (flush out) = true
-unprompted (finalise out) = true
-unprompted (nextRequest out) = true
-unprompted close = true
-unprompted sendFailed = true
-unprompted (response m) = false
-unprompted (handshake m) = false
-unprompted (break b) = true
-unprompted (judge v) = true
-unprompted (failedAttempt b v) = true
+unprompted c = not ((brings c) .message)
 
 unfoldable pub happens : Event → World → World
 happens (hostCalls c sent) w = cond (unprompted c) (calls c sent w) w
