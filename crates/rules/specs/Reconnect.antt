@@ -7,7 +7,7 @@ use lib.Dec.{ltb, eqb}
 use Rattle.rules.specs.Limits.{maxRedirects}
 use Rattle.rules.specs.Message.{Redirect, Break, redirectIn, isRedirect, isEnd, over, maxHandle, maxToken}
 use Rattle.rules.specs.Spec.{redirected}
-use Rattle.rules.specs.Session.{Connector, Cause, finished, permanent, exhausted, givenUp, streamError, Phase, live, closing, connecting, verdict, replay, ended, nothing, Session, attempt, ok, Result, answers, setConnector, setMark, setWorker, setPhase, isLive, isClosing, isVerdict, isConnecting, isEnded, complete, choose, unless, ending}
+use Rattle.rules.specs.Session.{Connector, Cause, finished, permanent, exhausted, givenUp, streamError, Phase, live, closing, connecting, verdict, replay, ended, nothing, Session, attempt, ok, Result, answers, setConnector, setMark, setWorker, setPhase, isLive, isClosing, isVerdict, isConnecting, isEnded, complete, choose, checks, unless, ending}
 use Rattle.rules.specs.Respond.{progress}
 
 -- token or handle of a redirect too long
@@ -40,11 +40,7 @@ attempted false c = record {
 -- zeroes both counters", and the attempt number "is answered; a redirect answers 0".
 unfoldable pub breaks : Break → Session → Result
 breaks b s =
-    unless s
-    ((isEnded (s .phase), 7)
-    ∷ (not (isLive (s .phase) || isClosing (s .phase)), 6)
-    ∷ (overlong (redirectIn b), 4)
-    ∷ [])
+    unless s (checks ((isEnded (s .phase), 7) ∷ (not (isLive (s .phase) || isClosing (s .phase)), 6) ∷ (overlong (redirectIn b), 4) ∷ []))
     (choose (complete s) (ending finished 0 s)
     (choose (isClosing (s .phase)) (ending (cond (isEnd b) finished streamError) 0 s)
     (let c = attempted (isRedirect b) (progress (some (s .worker .persistedSize)) (rerouted (redirectIn b) (s .worker .connector))) in
@@ -89,11 +85,7 @@ onRedirect (ended c) = false
 
 unfoldable pub judges : ℕ → Session → Result
 judges v s =
-    unless s
-    ((isEnded (s .phase), 7)
-    ∷ (not (isVerdict (s .phase)), 6)
-    ∷ (noVerdict v, 13)
-    ∷ [])
+    unless s (checks ((isEnded (s .phase), 7) ∷ (not (isVerdict (s .phase)), 6) ∷ (noVerdict v, 13) ∷ []))
     (let c = s .worker .connector in
     let r = onRedirect (s .phase) in
     ruled (ruling r (c .redirectsFollowed) v) (setWorker (setConnector (counted r c) (s .worker)) s))
@@ -101,12 +93,7 @@ judges v s =
 -- "A failed attempt brings its error and verdict under the same redirect rule, without the attempt number."
 unfoldable pub fails : Break → ℕ → Session → Result
 fails b v s =
-    unless s
-    ((isEnded (s .phase), 7)
-    ∷ (not (isConnecting (s .phase)), 6)
-    ∷ (noVerdict v, 13)
-    ∷ (overlong (redirectIn b), 4)
-    ∷ [])
+    unless s (checks ((isEnded (s .phase), 7) ∷ (not (isConnecting (s .phase)), 6) ∷ (noVerdict v, 13) ∷ (overlong (redirectIn b), 4) ∷ []))
     (let c = rerouted (redirectIn b) (s .worker .connector) in
     let r = isRedirect b in
     ruled (ruling r (c .redirectsFollowed) v) (setWorker (setConnector (counted r c) (s .worker)) s))

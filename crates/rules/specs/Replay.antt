@@ -4,7 +4,7 @@ use mathlib.Core.Option.{Option, none, some}
 use mathlib.Core.List.{[], _∷_}
 use Prim.Native.Nat.{ℕ, suc, _-_}
 use lib.ListN.{length, getElem?}
-use Rattle.rules.specs.Session.{ReplayChunk, PendingRequest, Phase, live, closing, connecting, verdict, replay, ended, Sent, nothing, aRequest, bareFlush, Session, sends, ok, done, Result, answers, setMark, setWorker, setPhase, isReplay, isEnded, chunks, waiters, watermark, shortOut, choose, unless}
+use Rattle.rules.specs.Session.{ReplayChunk, PendingRequest, Phase, live, closing, connecting, verdict, replay, ended, Sent, nothing, aRequest, bareFlush, Session, sends, ok, done, Result, answers, setMark, setWorker, setPhase, isReplay, isEnded, chunks, waiters, watermark, shortOut, choose, checks, unless}
 use Rattle.rules.specs.Upload.{chunkRequest}
 use Rattle.rules.specs.Respond.{bareRequest}
 
@@ -41,11 +41,7 @@ unfoldable pub hands : ℕ → Session → Result
 hands out s =
     let i = place (s .phase) in
     let c = getElem? (chunks s) i in
-    unless s
-    ((isEnded (s .phase), 7)
-    ∷ (not (isReplay (s .phase)), 6)
-    ∷ (given c && shortOut out s, 11)
-    ∷ [])
+    unless s (checks ((isEnded (s .phase), 7) ∷ (not (isReplay (s .phase)), 6) ∷ (given c && shortOut out s, 11) ∷ []))
     (handsChunk c i s)
 
 -- ---- a send reported failed
@@ -63,10 +59,7 @@ isBare bareFlush = true
 -- "allowed directly after an accepted call that sent ..., else 6, ends a replay, clears the mark after a bare flush, and else changes nothing"
 unfoldable pub unsent : Session → Result
 unsent s =
-    unless s
-    ((isEnded (s .phase), 7)
-    ∷ (isNothing (s .sent), 6)
-    ∷ [])
+    unless s (checks ((isEnded (s .phase), 7) ∷ (isNothing (s .sent), 6) ∷ []))
     (answers ok
     (setPhase (cond (isReplay (s .phase)) live (s .phase)) nothing
     (setWorker (setMark (s .worker .selfFlushOutstanding && not (isBare (s .sent))) (s .worker)) s)))

@@ -9,7 +9,7 @@ use lib.Signed.{leZ, ltZ}
 use Rattle.crc32c.specs.Reg.{crcOf}
 use Rattle.rules.specs.Message.{Request, Response, sizeOf, isFinalized, over, maxHandle}
 use Rattle.rules.specs.Spec.{noted}
-use Rattle.rules.specs.Session.{ReplayChunk, Connector, PendingKind, flushing, finalizing, PendingRequest, Worker, replay, nothing, bareFlush, regressed, alreadyFinalized, Session, completes, Result, answers, setConnector, setMark, setWorker, setPhase, isLive, isClosing, isConnecting, isEnded, chunks, waiters, watermark, complete, choose, unless, ending}
+use Rattle.rules.specs.Session.{ReplayChunk, Connector, PendingKind, flushing, finalizing, PendingRequest, Worker, replay, nothing, bareFlush, regressed, alreadyFinalized, Session, completes, Result, answers, setConnector, setMark, setWorker, setPhase, isLive, isClosing, isConnecting, isEnded, chunks, waiters, watermark, complete, choose, checks, unless, ending}
 use Rattle.rules.specs.Upload.{flushRequest}
 
 -- ---- acknowledging
@@ -93,11 +93,7 @@ updated m c = record {
 
 unfoldable pub responds : Response → Session → Result
 responds m s =
-    unless s
-    ((isEnded (s .phase), 7)
-    ∷ (not (isLive (s .phase) || isClosing (s .phase)), 6)
-    ∷ (over maxHandle (m .writeHandle), 4)
-    ∷ [])
+    unless s (checks ((isEnded (s .phase), 7) ∷ (not (isLive (s .phase) || isClosing (s .phase)), 6) ∷ (over maxHandle (m .writeHandle), 4) ∷ []))
     (takes (sizeOf (m .writeStatus)) (isFinalized (m .writeStatus))
     (setWorker (setConnector (updated m (s .worker .connector)) (setMark false (s .worker))) s) lastStep)
 
@@ -117,10 +113,6 @@ toReplay k s = answers (completes k none) (setPhase (replay 0) nothing s)
 -- bare flush, and leads to replay."
 unfoldable pub shakes : Response → Session → Result
 shakes m s =
-    unless s
-    ((isEnded (s .phase), 7)
-    ∷ (not (isConnecting (s .phase)), 6)
-    ∷ (over maxHandle (m .writeHandle), 4)
-    ∷ [])
+    unless s (checks ((isEnded (s .phase), 7) ∷ (not (isConnecting (s .phase)), 6) ∷ (over maxHandle (m .writeHandle), 4) ∷ []))
     (takes (sizeOf (m .writeStatus)) (isFinalized (m .writeStatus))
     (setWorker (setConnector (progress (sizeOf (m .writeStatus)) (updated m (s .worker .connector))) (setMark false (s .worker))) s) toReplay)

@@ -260,13 +260,29 @@ complete s = s .worker .finalized && isNil (waiters s)
 
 -- ---- refusals and ends
 
+-- a test and its number in document 01's table
+abbrev pub Rows : Type 0
+Rows = List (Bool × ℕ)
+
+abbrev pub numbered : ℕ → Rows → Rows
+numbered n [] = []
+numbered n (row ∷ rows) = cond (eqb n (row .1)) (row ∷ numbered n rows) (numbered n rows)
+
+abbrev pub inOrder : List ℕ → Rows → Rows
+inOrder [] rows = []
+inOrder (n ∷ ns) rows = numbered n rows ++ inOrder ns rows
+
+-- "Later calls check 7, 12, 6, 13, 4, 11, 8, 9, 10, as far as they apply."
+abbrev pub checks : Rows → Rows
+checks = inOrder (7 ∷ 12 ∷ 6 ∷ 13 ∷ 4 ∷ 11 ∷ 8 ∷ 9 ∷ 10 ∷ [])
+
 -- one of two results
 unfoldable pub choose : Bool → Result → Result → Result
 choose true x y = x
 choose false x y = y
 
 -- "A refused call changes nothing": the first row whose test holds refuses, with its number
-unfoldable pub unless : Session → List (Bool × ℕ) → Result → Result
+unfoldable pub unless : Session → Rows → Result → Result
 unless s [] r = r
 unless s (row ∷ rows) r = cond (row .0) (answers (refused (row .1)) s) (unless s rows r)
 

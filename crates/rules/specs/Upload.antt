@@ -8,7 +8,7 @@ use lib.Dec.{leb}
 use lib.IntN.{ℤ, pos, _+ℤ_}
 use Rattle.crc32c.specs.Reg.{crcOf, joined}
 use Rattle.rules.specs.Message.{Bytes, Request}
-use Rattle.rules.specs.Session.{ReplayChunk, PendingKind, flushing, finalizing, PendingRequest, Worker, closing, nothing, aRequest, Session, took, sends, waits, ok, Result, answers, setMark, setPending, setWorker, setPhase, isNil, isLive, isEnded, waiters, full, watermark, closed, noSlot, noWaiter, pastEnd, shortOut, choose, unless}
+use Rattle.rules.specs.Session.{ReplayChunk, PendingKind, flushing, finalizing, PendingRequest, Worker, closing, nothing, aRequest, Session, took, sends, waits, ok, Result, answers, setMark, setPending, setWorker, setPhase, isNil, isLive, isEnded, waiters, full, watermark, closed, noSlot, noWaiter, pastEnd, shortOut, choose, Rows, checks, unless}
 
 -- ---- a chunk is cut
 
@@ -85,46 +85,34 @@ holds b s = record {
   worker = s .worker;
 }
 
--- an append of at least a byte. "Held bytes reaching C are cut as one chunk"; "an append that cuts nothing needs no phase but not ended"
-unfoldable pub appends : Bytes → ℕ → Session → Result
-appends d out s =
+-- "Held bytes reaching C are cut as one chunk"
+abbrev pub fillsChunk : Bytes → Session → Bool
+fillsChunk d s = leb (s .limit) (length (holding d s))
+
+-- of an append of at least a byte: "an append that cuts nothing needs no phase but not ended"
+abbrev pub appendRows : Bytes → ℕ → Session → Rows
+appendRows d out s =
+    let cuts = fillsChunk d s in
+    checks
+    ((isEnded (s .phase), 7) ∷ (closed s, 12) ∷ (cuts && not (isLive (s .phase)), 6) ∷ (cuts && shortOut out s, 11)
+    ∷ (cuts && full s, 8) ∷ (cuts && noSlot s, 9) ∷ (cuts && pastEnd (holding d s) s, 10) ∷ [])
+
+abbrev pub appended : Bytes → Session → Result
+appended d s =
     let b = holding d s in
-    let full-chunk = leb (s .limit) (length b) in
-    unless s
-    ((isEnded (s .phase), 7)
-    ∷ (closed s, 12)
-    ∷ (full-chunk && not (isLive (s .phase)), 6)
-    ∷ (full-chunk && shortOut out s, 11)
-    ∷ (full-chunk && full s, 8)
-    ∷ (full-chunk && noSlot s, 9)
-    ∷ (full-chunk && pastEnd b s, 10)
-    ∷ [])
-    (choose full-chunk
-    (answers (took (room d s) (some (cutRequest b s))) (cuts b s))
-    (answers (took (room d s) none) (holds b s)))
+    choose (fillsChunk d s) (answers (took (room d s) (some (cutRequest b s))) (cuts b s)) (answers (took (room d s) none) (holds b s))
+
+unfoldable pub appends : Bytes → ℕ → Session → Result
+appends d out s = unless s (appendRows d out s) (appended d s)
 
 -- ---- flush and finalise
 
 -- "The flush request sets flush and state lookup; finalise sets finish and flush, and the running sum if known."
 abbrev pub flushRequest : ℤ → Request
-flushRequest at = record {
-  writeOffset = at;
-  checksummedData = none;
-  objectChecksum = none;
-  stateLookup = true;
-  flush = true;
-  finishWrite = false;
-}
+flushRequest at = record { writeOffset = at; checksummedData = none; objectChecksum = none; stateLookup = true; flush = true; finishWrite = false }
 
 abbrev pub finishRequest : ℤ → Option ℕ → Request
-finishRequest at sum = record {
-  writeOffset = at;
-  checksummedData = none;
-  objectChecksum = sum;
-  stateLookup = false;
-  flush = true;
-  finishWrite = true;
-}
+finishRequest at sum = record { writeOffset = at; checksummedData = none; objectChecksum = sum; stateLookup = false; flush = true; finishWrite = true }
 
 abbrev pub requestFor : PendingKind → Session → Request
 requestFor flushing s = flushRequest (s .writeOffset)
@@ -151,33 +139,28 @@ awaits k s = record {
   worker = setPending (waiters s ++ (waiterOf k s ∷ [])) (s .worker .finalized || isFinalizing k) (s .worker);
 }
 
+abbrev pub askRows : ℕ → Session → Rows
+askRows out s =
+    let cuts = not (isNil (s .held)) in
+    checks
+    ((isEnded (s .phase), 7) ∷ (closed s, 12) ∷ (not (isLive (s .phase)), 6) ∷ (cuts && shortOut out s, 11)
+    ∷ (full s, 8) ∷ (cond cuts (noSlot s) (noWaiter s), 9) ∷ (cuts && pastEnd (s .held) s, 10) ∷ [])
+
 -- "Flush, and finalise, with held bytes cut them as one chunk and make no waiter; the call is repeated. With none held they send their
 -- request and make a waiter, numbered 1, 2, ..."
+abbrev pub asked : PendingKind → Session → Result
+asked k s =
+    choose (not (isNil (s .held))) (answers (sends (cutRequest (s .held) s)) (cuts (s .held) s))
+    (answers (waits (requestFor k s) (suc (s .made))) (awaits k s))
+
 unfoldable pub asks : PendingKind → ℕ → Session → Result
-asks k out s =
-    let b = s .held in
-    let some-held = not (isNil b) in
-    unless s
-    ((isEnded (s .phase), 7)
-    ∷ (closed s, 12)
-    ∷ (not (isLive (s .phase)), 6)
-    ∷ (some-held && shortOut out s, 11)
-    ∷ (full s, 8)
-    ∷ (cond some-held (noSlot s) (noWaiter s), 9)
-    ∷ (some-held && pastEnd b s, 10)
-    ∷ [])
-    (choose some-held
-    (answers (sends (cutRequest b s)) (cuts b s))
-    (answers (waits (requestFor k s) (suc (s .made))) (awaits k s)))
+asks k out s = unless s (askRows out s) (asked k s)
 
 -- ---- close
 
+abbrev pub closeRows : Session → Rows
+closeRows s = checks ((isEnded (s .phase), 7) ∷ (not (isLive (s .phase)), 6) ∷ (full s, 8) ∷ [])
+
 -- "Close needs the live phase and stored below capacity. Held bytes are not sent."
 unfoldable pub closes : Session → Result
-closes s =
-    unless s
-    ((isEnded (s .phase), 7)
-    ∷ (not (isLive (s .phase)), 6)
-    ∷ (full s, 8)
-    ∷ [])
-    (answers ok (setPhase closing nothing s))
+closes s = unless s (closeRows s) (answers ok (setPhase closing nothing s))
