@@ -12,7 +12,7 @@ use lib.Seq.{length-take-le, take-append-le, drop-append-le}
 use lib.Dec.{leb}
 use Rattle.crc32c.specs.Bytes.{Bytes as Octets}
 use Rattle.rules.specs.Message.{Bytes}
-use Rattle.rules.specs.Lists.{All}
+use Rattle.rules.specs.Basics.{All}
 use Rattle.rules.proofs.Lists.{cond-ind}
 use Rattle.bench_records.specs.Record.{Record, FL, FI, CL, BR, NX, Reading, whole, cut, unknown, bytes, little, same, Row, format, after, reading}
 

@@ -12,7 +12,7 @@ use lib.ListN.{length, take, drop, getD, getElem?, length-drop, take-append-drop
 use lib.Seq.{length-take-le, take-append-le, drop-append-le, take-suc, drop-drop}
 use Rattle.rules.specs.Session.{bytesOf}
 use Rattle.rules.specs.Respond.{pushedEnd}
-use Rattle.rules.specs.Lists.{All}
+use Rattle.rules.specs.Basics.{All}
 use Rattle.replay_buffer.specs.Word.{lenOf, sumOf}
 use Rattle.replay_buffer.specs.View.{chunksOf, total}
 

@@ -6,7 +6,7 @@ use lib.ListN.{take, drop}
 use lib.IntN.{pos}
 use Rattle.rules.specs.Message.{Bytes}
 use Rattle.rules.specs.Session.{ReplayChunk}
-use Rattle.rules.specs.Lists.{All}
+use Rattle.rules.specs.Basics.{All}
 use Rattle.ring.specs.Ring.{part}
 use Rattle.replay_buffer.specs.Word.{lenOf, sumOf}
 use Rattle.replay_buffer.specs.declared.ReplayBuffer.{ReplayBuffer}

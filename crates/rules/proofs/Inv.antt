@@ -7,7 +7,7 @@ use Prim.Native.Nat.{ℕ, _≤_, _<_}
 use lib.ListN.{length, take, drop}
 use lib.IntN.{ℤ, pos, negsuc}
 use Rattle.crc32c.specs.Reg.{crcOf}
-use Rattle.rules.specs.Lists.{All}
+use Rattle.rules.specs.Basics.{All}
 use Rattle.rules.specs.Message.{Bytes, ChecksummedData, Request, Response, sizeOf, isFinalized}
 use Rattle.rules.specs.Session.{ReplayChunk, finalizing, PendingRequest, Cause, finished, regressed, alreadyFinalized, permanent, exhausted, givenUp, streamError, Phase, live, closing, connecting, verdict, replay, ended, Session, bytesOf, chunks, waiters, isEnded, isReplay}
 use Rattle.rules.specs.Replay.{place}

@@ -12,7 +12,7 @@ use lib.Signed.{leZ, ltZ}
 use lib.Dec.{ltb}
 use borrow.Author.Tests.{leb-true, leb-false, ltb-true, ltb-false}
 use Rattle.crc32c.specs.Reg.{crcOf}
-use Rattle.rules.specs.Lists.{All}
+use Rattle.rules.specs.Basics.{All}
 use Rattle.rules.specs.Message.{Bytes}
 use Rattle.rules.specs.Session.{ReplayChunk, Session, Result, answers, refused, choose, unless, isNil, bytesOf}
 use Rattle.rules.specs.Respond.{endOffset, trimmed, ack}

@@ -10,7 +10,7 @@ use lib.IntN.{ℤ, pos, negsuc}
 use lib.Dec.{eqb}
 use borrow.Author.Tests.{eqb-true}
 use Rattle.crc32c.specs.Reg.{crcOf}
-use Rattle.rules.specs.Lists.{All}
+use Rattle.rules.specs.Basics.{All}
 use Rattle.rules.specs.Message.{Bytes, ChecksummedData, Request, Response, sizeOf}
 use Rattle.rules.specs.Session.{ReplayChunk}
 use Rattle.rules.specs.Upload.{chunkRequest}

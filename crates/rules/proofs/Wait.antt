@@ -10,7 +10,7 @@ use lib.IntN.{ℤ, pos}
 use lib.Signed.{leZ}
 use borrow.Author.Tests.{leb-true}
 use Rattle.crc32c.specs.Reg.{crcOf}
-use Rattle.rules.specs.Lists.{All}
+use Rattle.rules.specs.Basics.{All}
 use Rattle.rules.specs.Message.{Bytes}
 use Rattle.rules.specs.Session.{PendingKind, flushing, finalizing, PendingRequest, Session}
 use Rattle.rules.specs.Upload.{requestFor, isFinalizing, waiterOf}

@@ -1,8 +1,5 @@
 -- What the bench program opens with and is told.
-use mathlib.Core.Option.{Option, none, some}
-use mathlib.Core.List.{[], _∷_, _++_}
-use Prim.Native.Nat.{ℕ}
-use lib.IntN.{ℤ, pos}
+use Rattle.rules.specs.Basics.{Option, none, some, [], _∷_, _++_, ℕ, ℤ, pos}
 use Rattle.rules.specs.Message.{Bytes, persistedSize, Response}
 use Rattle.rules.specs.Spec.{writeForm}
 use Rattle.rules.specs.Opening.{Opening, bucketPrefix}

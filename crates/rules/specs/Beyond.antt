@@ -1,13 +1,6 @@
 -- More than demand 3, which alone lets a wrong sum pass (it only cuts) and does not ask whether the object was really finalised.
-use mathlib.Core.Path.{_≡_}
-use mathlib.Core.Logic.{_≢_}
-use mathlib.Core.Bool.{true}
-use mathlib.Core.Option.{some}
-use Prim.Native.Nat.{ℕ, _<_}
-use lib.ListN.{length, take, drop, getElem?}
-use lib.IntN.{pos}
+use Rattle.rules.specs.Basics.{_≡_, _≢_, true, some, ℕ, _<_, length, take, drop, getElem?, pos, All}
 use Rattle.crc32c.specs.Reg.{crcOf}
-use Rattle.rules.specs.Lists.{All}
 use Rattle.rules.specs.Message.{Bytes, ChecksummedData, Request}
 use Rattle.rules.specs.Session.{finalizing, regressed, ended}
 use Rattle.rules.specs.Notes.{Mark}

@@ -1,7 +1,7 @@
 -- Document 01 as definitions, in an order in which they can be read; docs/PAPER.md leads from the paper's sentences to them.
 -- The session and its step rules
+pub mod Basics
 pub mod Limits
-pub mod Lists
 pub mod Message
 pub mod Spec
 pub mod Session

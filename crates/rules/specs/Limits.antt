@@ -1,5 +1,5 @@
 -- The numbers that document 01 names.
-use Prim.Native.Nat.{ℕ, _+_, _*_, _-_}
+use Rattle.rules.specs.Basics.{ℕ, _+_, _*_, _-_}
 
 -- "C is 0 or above 2,097,152"
 abbrev pub maxChunk : ℕ

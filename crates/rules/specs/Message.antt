@@ -1,11 +1,5 @@
 -- What goes over the line: requests, responses, and how a stream breaks (bidi_write.rs and the protobuf messages that it uses).
-use mathlib.Core.Bool.{Bool, true, false}
-use mathlib.Core.Option.{Option, none, some}
-use mathlib.Core.List.{List}
-use Prim.Native.Nat.{ℕ}
-use lib.ListN.{length}
-use lib.Dec.{ltb, eqb}
-use lib.IntN.{ℤ}
+use Rattle.rules.specs.Basics.{Bool, true, false, Option, none, some, List, ℕ, length, ltb, eqb, ℤ}
 
 abbrev pub Bytes : Type 0
 Bytes = List ℕ
@@ -44,19 +38,13 @@ pub record Response : Type 0 where
   pub writeHandle : Option Bytes
 
 abbrev pub sizeOf : Option WriteStatus → Option ℤ
-sizeOf none = none
-sizeOf (some (persistedSize n)) = some n
-sizeOf (some (resource n g f)) = some n
+sizeOf = elim [ none ↦ none | some (persistedSize n) ↦ some n | some (resource n g f) ↦ some n ]
 
 abbrev pub isFinalized : Option WriteStatus → Bool
-isFinalized none = false
-isFinalized (some (persistedSize n)) = false
-isFinalized (some (resource n g f)) = f
+isFinalized = elim [ none ↦ false | some (persistedSize n) ↦ false | some (resource n g f) ↦ f ]
 
 abbrev pub generationOf : Option WriteStatus → Option Generation
-generationOf none = none
-generationOf (some (persistedSize n)) = none
-generationOf (some (resource n g f)) = some g
+generationOf = elim [ none ↦ none | some (persistedSize n) ↦ none | some (resource n g f) ↦ some g ]
 
 -- ---- breaks
 
@@ -73,23 +61,14 @@ pub data Break : Type 0 where
   otherError : Break
 
 abbrev pub redirectIn : Break → Option Redirect
-redirectIn endOfStream = none
-redirectIn (status code r) = r
-redirectIn otherError = none
+redirectIn = elim [ endOfStream ↦ none | status code r ↦ r | otherError ↦ none ]
 
 -- "It is a redirect only where the code is Aborted too." Aborted is gRPC's 10.
 abbrev pub isRedirect : Break → Bool
-isRedirect endOfStream = false
-isRedirect (status code none) = false
-isRedirect (status code (some r)) = eqb code 10
-isRedirect otherError = false
+isRedirect = elim [ endOfStream ↦ false | status code none ↦ false | status code (some r) ↦ eqb code 10 | otherError ↦ false ]
 
 abbrev pub isEnd : Break → Bool
-isEnd endOfStream = true
-isEnd (status code r) = false
-isEnd otherError = false
-
--- ---- lengths
+isEnd = elim [ endOfStream ↦ true | status code r ↦ false | otherError ↦ false ]
 
 -- given, and over n bytes
 abbrev pub over : ℕ → Option Bytes → Bool

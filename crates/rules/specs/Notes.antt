@@ -1,11 +1,5 @@
 -- What demand 3 speaks of, noted by an onlooker from the calls and the answers alone.
-use mathlib.Core.Bool.{Bool, true, false, cond}
-use mathlib.Core.Option.{Option, none, some, Option·getD}
-use mathlib.Core.List.{List, [], _∷_, _++_}
-use Prim.Native.Nat.{ℕ, _+_, _-_, min}
-use lib.ListN.{length, take}
-use lib.Dec.{leb}
-use lib.IntN.{ℤ}
+use Rattle.rules.specs.Basics.{Bool, true, false, cond, Option, none, some, Option·getD, List, [], _∷_, _++_, ℕ, _+_, _-_, min, length, take, leb, ℤ}
 use Rattle.rules.specs.Message.{Bytes, ChecksummedData, Request, sizeOf}
 use Rattle.rules.specs.Session.{PendingKind, flushing, finalizing, Call, append, flush, finalise, nextRequest, close, sendFailed, response, handshake, break, judge, failedAttempt, Answer, refused, took, sends, waits, completes, attempt, ok, done, ends}
 use Rattle.rules.specs.Opening.{larger}

@@ -1,12 +1,5 @@
 -- "Opening": refusals 1 to 5 in order, else the session that the calls start from (`connect_attempt`, `start_worker`).
-use mathlib.Core.Bool.{Bool, true, false, not, cond, _&&_, _||_}
-use mathlib.Core.Option.{Option, none, some, Option·getD}
-use mathlib.Core.List.{List, [], _∷_}
-use Prim.Native.Nat.{ℕ, _+_, _*_, max}
-use lib.ListN.{length}
-use lib.Dec.{leb, ltb, eqb}
-use lib.IntN.{ℤ, pos}
-use lib.Signed.{leZ}
+use Rattle.rules.specs.Basics.{Bool, true, false, not, cond, _&&_, _||_, Option, none, some, Option·getD, List, [], _∷_, ℕ, _+_, _*_, max, length, leb, ltb, eqb, ℤ, pos, leZ}
 use Rattle.rules.specs.Limits.{maxChunk, maxCapacity, defaultCapacity, storeSize}
 use Rattle.crc32c.specs.Reg.{crcOf}
 use Rattle.rules.specs.Message.{Bytes, Response, sizeOf, isFinalized, over, maxHandle, maxToken}

@@ -1,9 +1,5 @@
 -- `push` of coalescing_buffer.rs, and an append "repeated until all is taken", which document 01 says "equals `push`".
-use mathlib.Core.Bool.{cond}
-use mathlib.Core.List.{List, [], _∷_, _++_}
-use Prim.Native.Nat.{ℕ, zero, suc, _-_, min}
-use lib.ListN.{length, take, drop}
-use lib.Dec.{leb, ltb}
+use Rattle.rules.specs.Basics.{cond, List, [], _∷_, _++_, ℕ, zero, suc, _-_, min, length, take, drop, leb, ltb}
 use Rattle.rules.specs.Message.{Bytes}
 
 -- ---- the source: chunks that are ready, and what is held

@@ -1,9 +1,5 @@
 -- "Breaks and replay", first half: break, verdict, failed attempt (`Connector::reconnect` without clock, retry_redirect.rs, redirect.rs).
-use mathlib.Core.Bool.{Bool, true, false, not, cond, _&&_, _||_}
-use mathlib.Core.Option.{Option, none, some}
-use mathlib.Core.List.{[], _∷_}
-use Prim.Native.Nat.{ℕ, suc, _-_, _^_, min}
-use lib.Dec.{ltb, eqb}
+use Rattle.rules.specs.Basics.{Bool, true, false, not, cond, _&&_, _||_, Option, none, some, [], _∷_, ℕ, suc, _-_, _^_, min, ltb, eqb}
 use Rattle.rules.specs.Limits.{maxRedirects}
 use Rattle.rules.specs.Message.{Redirect, Break, redirectIn, isRedirect, isEnd, over, maxHandle, maxToken}
 use Rattle.rules.specs.Spec.{redirected}
@@ -76,12 +72,7 @@ abbrev pub noVerdict : ℕ → Bool
 noVerdict v = ltb v 1 || ltb 4 v
 
 abbrev pub onRedirect : Phase → Bool
-onRedirect live = false
-onRedirect closing = false
-onRedirect connecting = false
-onRedirect (verdict r) = r
-onRedirect (replay i) = false
-onRedirect (ended c) = false
+onRedirect = elim [ live ↦ false | verdict r ↦ r | connecting ↦ false | replay i ↦ false | closing ↦ false | ended c ↦ false ]
 
 unfoldable pub judges : ℕ → Session → Result
 judges v s =

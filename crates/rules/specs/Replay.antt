@@ -1,21 +1,12 @@
 -- "Breaks and replay", second half: next request and a send reported failed (`Worker::reconnect` after the handshake).
-use mathlib.Core.Bool.{Bool, true, false, not, cond, _&&_}
-use mathlib.Core.Option.{Option, none, some}
-use mathlib.Core.List.{[], _∷_}
-use Prim.Native.Nat.{ℕ, suc, _-_}
-use lib.ListN.{length, getElem?}
+use Rattle.rules.specs.Basics.{Bool, true, false, not, cond, _&&_, Option, none, some, [], _∷_, ℕ, suc, _-_, length, getElem?}
 use Rattle.rules.specs.Session.{ReplayChunk, PendingRequest, Phase, live, closing, connecting, verdict, replay, ended, Sent, nothing, aRequest, bareFlush, Session, sends, ok, done, Result, answers, setMark, setWorker, setPhase, isReplay, isEnded, chunks, waiters, watermark, shortOut, choose, checks, unless}
 use Rattle.rules.specs.Upload.{chunkRequest}
 use Rattle.rules.specs.Respond.{bareRequest}
 
 -- how many requests the replay has handed out
 abbrev pub place : Phase → ℕ
-place live = 0
-place closing = 0
-place connecting = 0
-place (verdict r) = 0
-place (replay i) = i
-place (ended c) = 0
+place = elim [ live ↦ 0 | verdict r ↦ 0 | connecting ↦ 0 | replay i ↦ i | closing ↦ 0 | ended c ↦ 0 ]
 
 abbrev pub given {ℓ} : {A : Type ℓ} → Option A → Bool
 given none = false
@@ -47,14 +38,10 @@ hands out s =
 -- ---- a send reported failed
 
 abbrev pub isNothing : Sent → Bool
-isNothing nothing = true
-isNothing aRequest = false
-isNothing bareFlush = false
+isNothing = elim [ nothing ↦ true | aRequest ↦ false | bareFlush ↦ false ]
 
 abbrev pub isBare : Sent → Bool
-isBare nothing = false
-isBare aRequest = false
-isBare bareFlush = true
+isBare = elim [ nothing ↦ false | aRequest ↦ false | bareFlush ↦ true ]
 
 -- "allowed directly after an accepted call that sent ..., else 6, ends a replay, clears the mark after a bare flush, and else changes nothing"
 unfoldable pub unsent : Session → Result

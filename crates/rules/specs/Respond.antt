@@ -1,11 +1,5 @@
 -- Responses and handshakes: `handle_response_success` of worker.rs, `ack` of replay_buffer.rs.
-use mathlib.Core.Bool.{Bool, true, false, not, cond, _&&_, _||_}
-use mathlib.Core.Option.{Option, none, some}
-use mathlib.Core.List.{List, [], _∷_}
-use Prim.Native.Nat.{ℕ, suc}
-use lib.ListN.{length, drop}
-use lib.IntN.{ℤ, pos, natAbs, _+ℤ_, _-ℤ_}
-use lib.Signed.{leZ, ltZ}
+use Rattle.rules.specs.Basics.{Bool, true, false, not, cond, _&&_, _||_, Option, none, some, List, [], _∷_, ℕ, suc, length, drop, ℤ, pos, natAbs, _+ℤ_, _-ℤ_, leZ, ltZ}
 use Rattle.crc32c.specs.Reg.{crcOf}
 use Rattle.rules.specs.Message.{Request, Response, sizeOf, isFinalized, over, maxHandle}
 use Rattle.rules.specs.Spec.{noted}

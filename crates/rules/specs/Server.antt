@@ -1,11 +1,5 @@
 -- "Server rules for demand 3": what the server has stored, and the link, which is the present connection.
-use mathlib.Core.Bool.{Bool, true, false, cond, _&&_}
-use mathlib.Core.Option.{Option, none, some}
-use mathlib.Core.List.{List, [], _∷_, _++_}
-use Prim.Native.Nat.{ℕ}
-use lib.ListN.{length, take, drop}
-use lib.Dec.{eqb}
-use lib.IntN.{ℤ, pos, negsuc}
+use Rattle.rules.specs.Basics.{Bool, true, false, cond, _&&_, Option, none, some, List, [], _∷_, _++_, ℕ, length, take, drop, eqb, ℤ, pos, negsuc}
 use Rattle.crc32c.specs.Reg.{crcOf}
 use Rattle.rules.specs.Message.{Bytes, Generation, ChecksummedData, Request, WriteStatus, persistedSize, resource, Response}
 

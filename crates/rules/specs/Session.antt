@@ -1,12 +1,5 @@
 -- The session's state, grouped as the crate's structs own each other, the calls, the answers, and the tests that refusals and rules ask.
-use mathlib.Core.Bool.{Bool, true, false, not, cond, _&&_, _||_}
-use mathlib.Core.Option.{Option}
-use mathlib.Core.List.{List, [], _∷_, _++_}
-use Prim.Native.Nat.{ℕ, _*_, _-_, _^_}
-use lib.ListN.{length}
-use lib.Dec.{leb, ltb, eqb}
-use lib.IntN.{ℤ, pos, _+ℤ_}
-use lib.Signed.{ltZ}
+use Rattle.rules.specs.Basics.{Bool, true, false, not, cond, _&&_, _||_, Option, List, [], _∷_, _++_, ℕ, _*_, _-_, _^_, length, leb, ltb, eqb, ℤ, pos, _+ℤ_, ltZ}
 use Rattle.rules.specs.Limits.{maxWaiters}
 use Rattle.rules.specs.Message.{Bytes, Request, Response, Break}
 use Rattle.rules.specs.Spec.{AppendObjectSpec}
@@ -186,12 +179,7 @@ isNil [] = true
 isNil (x ∷ xs) = false
 
 abbrev pub phaseNumber : Phase → ℕ
-phaseNumber live = 1
-phaseNumber (verdict r) = 2
-phaseNumber connecting = 3
-phaseNumber (replay i) = 4
-phaseNumber closing = 5
-phaseNumber (ended c) = 6
+phaseNumber = elim [ live ↦ 1 | verdict r ↦ 2 | connecting ↦ 3 | replay i ↦ 4 | closing ↦ 5 | ended c ↦ 6 ]
 
 abbrev pub isLive : Phase → Bool
 isLive p = eqb (phaseNumber p) 1

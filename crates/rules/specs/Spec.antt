@@ -1,7 +1,6 @@
 -- AppendObjectSpecState: what a reconnect dials with, in its two forms, and how responses and redirects update it (state.rs).
 -- The opening dial's own fields (access list, generation conditions, object size, initial chunk) are left out with that dial.
-use mathlib.Core.Option.{Option, none, some, Option·getD}
-use lib.IntN.{ℤ, pos}
+use Rattle.rules.specs.Basics.{Option, none, some, Option·getD, ℤ, pos}
 use Rattle.rules.specs.Message.{Bytes, Generation, Response, Redirect, generationOf}
 
 pub record WriteObjectSpec : Type 0 where
@@ -59,15 +58,9 @@ appended w g handle token = record {
 
 -- generation, handle and token set anew
 abbrev pub renewed : Generation → Option Bytes → Option Bytes → AppendObjectSpec → AppendObjectSpec
-renewed g handle token a = record {
-  bucket = a .bucket;
-  object = a .object;
-  generation = g;
-  writeHandle = handle;
-  routingToken = token;
-  ifMetagenerationMatch = a .ifMetagenerationMatch;
-  ifMetagenerationNotMatch = a .ifMetagenerationNotMatch;
-}
+renewed g handle token a =
+    let w : WriteObjectSpec = record { bucket = a .bucket; object = a .object; ifMetagenerationMatch = a .ifMetagenerationMatch; ifMetagenerationNotMatch = a .ifMetagenerationNotMatch } in
+    appended w g handle token
 
 -- handle_response: a resource's generation and a given handle are taken over
 abbrev pub noted : Response → AppendObjectSpec → AppendObjectSpec

@@ -1,6 +1,5 @@
 -- The step rules of document 01 as one total function.
-use mathlib.Core.Option.{none}
-use mathlib.Core.List.{[], _∷_}
+use Rattle.rules.specs.Basics.{none, [], _∷_}
 use Rattle.rules.specs.Session.{flushing, finalizing, Session, Call, append, flush, finalise, nextRequest, close, sendFailed, response, handshake, break, judge, failedAttempt, took, Result, answers}
 use Rattle.rules.specs.Upload.{appends, asks, closes}
 use Rattle.rules.specs.Respond.{responds, shakes}

@@ -1,11 +1,5 @@
 -- "Calls while live": append, flush, finalise, close (transport.rs, coalescing_buffer.rs, `process_intent` of worker.rs).
-use mathlib.Core.Bool.{Bool, true, false, not, cond, _&&_, _||_}
-use mathlib.Core.Option.{Option, none, some}
-use mathlib.Core.List.{[], _∷_, _++_}
-use Prim.Native.Nat.{ℕ, suc, _-_, min}
-use lib.ListN.{length, take}
-use lib.Dec.{leb}
-use lib.IntN.{ℤ, pos, _+ℤ_}
+use Rattle.rules.specs.Basics.{Bool, true, false, not, cond, _&&_, _||_, Option, none, some, [], _∷_, _++_, ℕ, suc, _-_, min, length, take, leb, ℤ, pos, _+ℤ_}
 use Rattle.crc32c.specs.Reg.{crcOf, joined}
 use Rattle.rules.specs.Message.{Bytes, Request}
 use Rattle.rules.specs.Session.{ReplayChunk, PendingKind, flushing, finalizing, PendingRequest, Worker, closing, nothing, aRequest, Session, took, sends, waits, ok, Result, answers, setMark, setPending, setWorker, setPhase, isNil, isLive, isEnded, waiters, full, watermark, closed, noSlot, noWaiter, pastEnd, shortOut, choose, Rows, checks, unless}

@@ -1,11 +1,5 @@
 -- The session, the server and the onlooker's notes together, and the events that move them: demand 3's list.
-use mathlib.Core.Path.{_≡_}
-use mathlib.Core.Bool.{Bool, true, false, not, cond, _&&_}
-use mathlib.Core.Option.{Option, none, some}
-use mathlib.Core.List.{List, [], _∷_, _++_}
-use Prim.Native.Nat.{ℕ}
-use lib.ListN.{length, getElem?}
-use lib.IntN.{pos}
+use Rattle.rules.specs.Basics.{_≡_, Bool, true, false, not, cond, _&&_, Option, none, some, List, [], _∷_, _++_, ℕ, length, getElem?, pos}
 use Rattle.crc32c.specs.Reg.{crcOf}
 use Rattle.rules.specs.Message.{Bytes, Request, Response}
 use Rattle.rules.specs.Session.{Session, Call, response, handshake, Answer, Result}

@@ -6,7 +6,7 @@ use mathlib.Core.List.{List, [], _∷_, map}
 use Prim.Native.Nat.{ℕ}
 use lib.IntN.{pos}
 use Rattle.crc32c.specs.Reg.{crcOf}
-use Rattle.rules.specs.Lists.{All}
+use Rattle.rules.specs.Basics.{All}
 use Rattle.rules.specs.Message.{Bytes, Generation, Break, endOfStream, status, otherError, resource, Response}
 use Rattle.rules.specs.Spec.{AppendObjectSpec}
 use Rattle.rules.specs.Session.{ReplayChunk, finished, alreadyFinalized, givenUp, streamError, Session, Call, append, flush, finalise, close, sendFailed, response, break, judge, refused, completes, attempt, ok, ends, chunks, stored}

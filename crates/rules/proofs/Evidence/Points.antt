@@ -6,7 +6,7 @@ use Prim.Native.Nat.{ℕ}
 use lib.ListN.{length}
 use lib.IntN.{pos, negsuc}
 use Rattle.crc32c.specs.Reg.{crcOf}
-use Rattle.rules.specs.Lists.{All}
+use Rattle.rules.specs.Basics.{All}
 use Rattle.rules.specs.Session.{ReplayChunk, regressed, permanent, exhausted, Call, append, flush, response, break, judge, failedAttempt, took, completes, ok, ends, answers, chunks, stored}
 use Rattle.rules.specs.Step.{step}
 use Rattle.rules.specs.Opening.{opens}

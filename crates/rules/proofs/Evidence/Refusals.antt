@@ -6,7 +6,7 @@ use mathlib.Core.List.{List, [], _∷_, _++_}
 use Prim.Native.Nat.{ℕ, _-_, _^_}
 use lib.ListN.{replicate}
 use lib.IntN.{pos}
-use Rattle.rules.specs.Lists.{All}
+use Rattle.rules.specs.Basics.{All}
 use Rattle.rules.specs.Message.{Bytes, endOfStream, status, resource}
 use Rattle.rules.specs.Spec.{writeForm}
 use Rattle.rules.specs.Session.{Call, append, flush, finalise, response, handshake, break, judge, failedAttempt, refused}
