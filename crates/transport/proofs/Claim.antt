@@ -48,7 +48,7 @@ program-beyond-demand3 o m p a k v ts d =
 
 pub program-byte-total : Always (λ o object w. total.Total (total.firstTaken (o .payload) object) w)
 program-byte-total o m p a k v ts d =
-    subst (total.Total (total.firstTaken (o .payload) object)) (ran-seen ts _)
+    subst (total.Total (total.firstTaken (o .payload) (k .object))) (ran-seen ts _)
     (rules.program-byte-total ValidAt viewOf o m p a k v (map seen ts) (all-seen ts m _ d))
 
 -- ---- for any input
