@@ -9,8 +9,6 @@ Bytes = List ℕ
 pub record Generation : Type 0 where
   pub number : ℤ
 
--- ---- requests
-
 -- the data of a request, with its CRC32C
 pub record ChecksummedData : Type 0 where
   pub content : Bytes
@@ -25,8 +23,6 @@ pub record Request : Type 0 where
   pub stateLookup : Bool
   pub flush : Bool
   pub finishWrite : Bool
-
--- ---- responses
 
 -- how a response tells progress: a size alone, or the object's resource: size, generation, whether its finalize time is set
 pub data WriteStatus : Type 0 where
@@ -45,8 +41,6 @@ isFinalized = elim [ none ↦ false | some (persistedSize n) ↦ false | some (r
 
 abbrev pub generationOf : Option WriteStatus → Option Generation
 generationOf = elim [ none ↦ none | some (persistedSize n) ↦ none | some (resource n g f) ↦ some g ]
-
--- ---- breaks
 
 -- the detail of a status that redirects (BidiWriteObjectRedirectedError)
 pub record Redirect : Type 0 where
@@ -72,8 +66,7 @@ isEnd = elim [ endOfStream ↦ true | status code r ↦ false | otherError ↦ f
 
 -- given, and over n bytes
 abbrev pub over : ℕ → Option Bytes → Bool
-over n none = false
-over n (some b) = ltb n (length b)
+over n = elim [ none ↦ false | some b ↦ ltb n (length b) ]
 
 abbrev pub maxHandle : ℕ
 maxHandle = 1024

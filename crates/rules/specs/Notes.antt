@@ -58,16 +58,13 @@ abbrev pub requestIn : Answer → Option Request
 requestIn a = (shows a) .request
 
 abbrev pub listed : Option Request → List Request
-listed none = []
-listed (some r) = r ∷ []
+listed = elim [ none ↦ [] | some r ↦ r ∷ [] ]
 
 abbrev pub contentOf : Option ChecksummedData → Bytes
-contentOf none = []
-contentOf (some d) = d .content
+contentOf = elim [ none ↦ [] | some d ↦ d .content ]
 
 abbrev pub dataIn : Option Request → Bytes
-dataIn none = []
-dataIn (some r) = contentOf (r .checksummedData)
+dataIn = elim [ none ↦ [] | some r ↦ contentOf (r .checksummedData) ]
 
 -- ---- what a call brings
 
@@ -105,10 +102,6 @@ brings (failedAttempt b v) = plain
 abbrev pub taken : Bytes → Notes → Bytes
 taken d g = take (min (length d) (g .limit - g .loose)) d
 
-abbrev pub allWith : Option Bytes → Notes → Bytes
-allWith none g = g .all
-allWith (some d) g = g .all ++ taken d g
-
 -- "h ... grows by t, and goes back to 0 on reaching C, and at an accepted flush or finalise"
 abbrev pub looseWith : Option Bytes → Option PendingKind → Notes → ℕ
 looseWith none none g = g .loose
@@ -121,13 +114,12 @@ marksWith (some k) none g = g .marks
 marksWith (some k) (some n) g = g .marks ++ (record { kind = k; before = length (g .all) } ∷ [])
 
 abbrev pub largestOf : ℤ → Option ℤ → ℤ
-largestOf z none = z
-largestOf z (some n) = larger z n
+largestOf z = elim [ none ↦ z | some n ↦ larger z n ]
 
 abbrev pub noted : Brings → Shows → Notes → Notes
 noted b a g = record {
   limit = g .limit;
-  all = allWith (b .bytes) g;
+  all = elim (b .bytes) [ none ↦ g .all | some d ↦ g .all ++ taken d g ];
   loose = looseWith (b .bytes) (b .kind) g;
   largest = largestOf (g .largest) (b .size);
   marks = marksWith (b .kind) (a .waiter) g;

@@ -34,8 +34,6 @@ askedCapacity o = Option·getD (o .asked) defaultCapacity
 abbrev pub capacityOf : Opening → ℕ
 capacityOf o = max (askedCapacity o) (2 * o .limit + 1)
 
--- ---- refusals
-
 -- `projects/_/buckets/`
 abbrev pub bucketPrefix : Bytes
 bucketPrefix = 112 ∷ 114 ∷ 111 ∷ 106 ∷ 101 ∷ 99 ∷ 116 ∷ 115 ∷ 47 ∷ 95 ∷ 47 ∷ 98 ∷ 117 ∷ 99 ∷ 107 ∷ 101 ∷ 116 ∷ 115 ∷ 47 ∷ []
@@ -55,8 +53,6 @@ tooLong o =
     ltb 1024 (length (objectOf (o .spec))) || over maxToken (tokenOf (o .spec)) || over maxHandle (handleOf (o .spec))
     || over maxHandle (o .response .writeHandle) || over (o .limit) (o .payload)
 
--- ---- the session
-
 -- "persisted size P is the response's, 0 where absent"; "A negative P is kept."
 abbrev pub openSize : Opening → ℤ
 openSize o = Option·getD (sizeOf (o .response .writeStatus)) (pos 0)
@@ -66,8 +62,7 @@ larger a b = cond (leZ a b) b a
 
 -- "the payload's length (none: 0)"
 abbrev pub payloadLength : Option Bytes → ℕ
-payloadLength none = 0
-payloadLength (some b) = length b
+payloadLength = elim [ none ↦ 0 | some b ↦ length b ]
 
 -- "The running sum is the payload's, else 0 where P = 0, else the response's, else unknown."
 abbrev pub openSum : Option Bytes → ℤ → Option ℕ → Option ℕ

@@ -8,8 +8,7 @@ use Rattle.rules.specs.Respond.{progress}
 
 -- token or handle of a redirect too long
 abbrev pub overlong : Option Redirect → Bool
-overlong none = false
-overlong (some r) = over maxToken (r .routingToken) || over maxHandle (r .writeHandle)
+overlong = elim [ none ↦ false | some r ↦ over maxToken (r .routingToken) || over maxHandle (r .writeHandle) ]
 
 -- redirect detail is taken over "for any code"
 abbrev pub rerouted : Option Redirect → Connector → Connector

@@ -9,8 +9,7 @@ abbrev pub place : Phase → ℕ
 place = elim [ live ↦ 0 | verdict r ↦ 0 | connecting ↦ 0 | replay i ↦ i | closing ↦ 0 | ended c ↦ 0 ]
 
 abbrev pub given {ℓ} : {A : Type ℓ} → Option A → Bool
-given none = false
-given (some a) = true
+given = elim [ none ↦ false | some a ↦ true ]
 
 -- "a bare flush if the watermark holds, then *done*, live again"
 abbrev pub handsLast : ℕ → Session → Result
@@ -34,8 +33,6 @@ hands out s =
     let c = getElem? (chunks s) i in
     unless s (checks ((isEnded (s .phase), 7) ∷ (not (isReplay (s .phase)), 6) ∷ (given c && shortOut out s, 11) ∷ []))
     (handsChunk c i s)
-
--- ---- a send reported failed
 
 abbrev pub isNothing : Sent → Bool
 isNothing = elim [ nothing ↦ true | aRequest ↦ false | bareFlush ↦ false ]

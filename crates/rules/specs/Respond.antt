@@ -6,8 +6,6 @@ use Rattle.rules.specs.Spec.{noted}
 use Rattle.rules.specs.Session.{ReplayChunk, Connector, PendingKind, flushing, finalizing, PendingRequest, Worker, replay, nothing, bareFlush, regressed, alreadyFinalized, Session, completes, Result, answers, setConnector, setMark, setWorker, setPhase, isLive, isClosing, isConnecting, isEnded, chunks, waiters, watermark, complete, choose, checks, unless, ending}
 use Rattle.rules.specs.Upload.{flushRequest}
 
--- ---- acknowledging
-
 abbrev pub endOffset : ReplayChunk → ℤ
 endOffset c = c .writeOffset +ℤ pos (length (c .bytes))
 
@@ -19,8 +17,6 @@ trimmed n c = let b = drop (natAbs (n -ℤ c .writeOffset)) (c .bytes) in record
 unfoldable pub ack : ℤ → List ReplayChunk → List ReplayChunk
 ack n [] = []
 ack n (c ∷ cs) = cond (leZ (endOffset c) n) (ack n cs) (cond (ltZ (c .writeOffset) n) (trimmed n c ∷ cs) (c ∷ cs))
-
--- ---- waiters
 
 -- "A flush wants size ≥ its offset and not finalised; a finalise wants the size and finalised."
 abbrev pub wants : PendingKind → Bool → Bool
@@ -34,8 +30,6 @@ isSatisfied n finalised p = leZ (p .request .writeOffset) n && wants (p .kind) f
 unfoldable pub satisfied : ℤ → Bool → List PendingRequest → ℕ
 satisfied n finalised [] = 0
 satisfied n finalised (p ∷ ps) = cond (isSatisfied n finalised p) (suc (satisfied n finalised ps)) 0
-
--- ---- a stated size
 
 -- P is the size n, chunks and waiters up to it are gone
 abbrev pub absorbs : ℤ → Bool → Worker → Worker
@@ -57,8 +51,6 @@ takes (some n) finalised s last =
     (let k = satisfied n finalised (waiters s) in
     let s′ = setWorker (absorbs n finalised (s .worker)) s in
     choose (finalised && not (complete s′)) (ending alreadyFinalized k s′) (last k s′))
-
--- ---- response
 
 -- the last chunk's end
 abbrev pub pushedEnd : ℤ → List ReplayChunk → ℤ
@@ -91,14 +83,11 @@ responds m s =
     (takes (sizeOf (m .writeStatus)) (isFinalized (m .writeStatus))
     (setWorker (setConnector (updated m (s .worker .connector)) (setMark false (s .worker))) s) lastStep)
 
--- ---- handshake
-
 -- "P above the last size replaces it and zeroes both counters", as does a handshake's size
 abbrev pub progress : Option ℤ → Connector → Connector
 progress none c = c
 progress (some n) c =
-    cond (ltZ (c .lastPersistedSize) n)
-    (record { spec = c .spec; attemptCount = 0; redirectsFollowed = 0; lastPersistedSize = n }) c
+    cond (ltZ (c .lastPersistedSize) n) (record { spec = c .spec; attemptCount = 0; redirectsFollowed = 0; lastPersistedSize = n }) c
 
 unfoldable pub toReplay : ℕ → Session → Result
 toReplay k s = answers (completes k none) (setPhase (replay 0) nothing s)

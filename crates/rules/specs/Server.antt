@@ -1,7 +1,7 @@
 -- "Server rules for demand 3": what the server has stored, and the link, which is the present connection.
 use Rattle.rules.specs.Basics.{Bool, true, false, cond, _&&_, Option, none, some, List, [], _∷_, _++_, ℕ, length, take, drop, eqb, ℤ, pos, negsuc}
 use Rattle.crc32c.specs.Reg.{crcOf}
-use Rattle.rules.specs.Message.{Bytes, Generation, ChecksummedData, Request, WriteStatus, persistedSize, resource, Response}
+use Rattle.rules.specs.Message.{Bytes, Generation, ChecksummedData, Request, persistedSize, resource, Response}
 
 -- "The server holds persisted bytes (the object) and a tail."
 pub record Stored : Type 0 where
@@ -21,8 +21,6 @@ pub record Link : Type 0 where
 pub record Server : Type 0 where
   pub stored : Stored
   pub link : Link
-
--- ---- the link
 
 abbrev pub setRequests : List Request → Link → Link
 setRequests r l = record { requests = r; messages = l .messages; alive = l .alive; lossless = l .lossless }
@@ -62,12 +60,10 @@ connects v = record {
 -- ---- a request is taken
 
 abbrev pub isAt : ℤ → Bytes → Bool
-isAt (pos n) b = eqb n (length b)
-isAt (negsuc n) b = false
+isAt z b = elim z [ pos n ↦ eqb n (length b) | negsuc n ↦ false ]
 
 abbrev pub isSum : Option ℕ → Bytes → Bool
-isSum none b = true
-isSum (some sum) b = eqb sum (crcOf b)
+isSum o b = elim o [ none ↦ true | some sum ↦ eqb sum (crcOf b) ]
 
 -- "A chunk joins the tail if its offset is the end of both and its sum is right, else the connection is cut."
 abbrev pub takesChunk : ℤ → ChecksummedData → ℕ → ℕ → Server → Server
@@ -97,19 +93,15 @@ takesNext (r ∷ rest) bytes had v = takesOne r (r .checksummedData) bytes had (
 abbrev pub persists : ℕ → Stored → Stored
 persists n k = record { object = k .object ++ take n (k .tail); tail = drop n (k .tail); finalised = k .finalised }
 
--- ---- what the server states
-
 -- how a size is told: alone, or in a resource with a generation, which may be marked finalised
 pub data Told : Type 0 where
   alone : Told
   inResource : Generation → Bool → Told
 
 -- "Every stated size is true when sent, and a message is finalised only once the object is."
-abbrev pub states : Told → Stored → WriteStatus
-states alone k = persistedSize (pos (length (k .object)))
-states (inResource g marked) k = resource (pos (length (k .object))) g (marked && k .finalised)
-
--- a message may state nothing
+-- A message may state nothing.
 abbrev pub says : Option Told → Option Bytes → Stored → Response
 says none handle k = record { writeStatus = none; writeHandle = handle }
-says (some t) handle k = record { writeStatus = some (states t k); writeHandle = handle }
+says (some alone) handle k = record { writeStatus = some (persistedSize (pos (length (k .object)))); writeHandle = handle }
+says (some (inResource g marked)) handle k =
+    record { writeStatus = some (resource (pos (length (k .object))) g (marked && k .finalised)); writeHandle = handle }

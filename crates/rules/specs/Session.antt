@@ -41,8 +41,6 @@ pub record Worker : Type 0 where
   -- the mark: an own flush is outstanding
   pub selfFlushOutstanding : Bool
 
--- ---- what tasks and channels become
-
 -- "Ends other than *finished* fail every waiter."
 pub data Cause : Type 0 where
   finished regressed alreadyFinalized permanent exhausted givenUp streamError : Cause
@@ -175,8 +173,7 @@ setPhase p n s = record {
 -- ---- tests
 
 abbrev pub isNil {ℓ} : {A : Type ℓ} → List A → Bool
-isNil [] = true
-isNil (x ∷ xs) = false
+isNil = elim [ [] ↦ true | x ∷ xs ↦ false ]
 
 abbrev pub phaseNumber : Phase → ℕ
 phaseNumber = elim [ live ↦ 1 | verdict r ↦ 2 | connecting ↦ 3 | replay i ↦ 4 | closing ↦ 5 | ended c ↦ 6 ]
@@ -219,8 +216,7 @@ full s = leb (s .worker .replayBuffer .capacity) (stored s)
 
 -- "Watermark: no waiter, no own flush outstanding, stored ≥ capacity − 2 × C."
 unfoldable pub watermark : Session → Bool
-watermark s =
-    isNil (waiters s) && not (s .worker .selfFlushOutstanding) && leb (s .worker .replayBuffer .capacity - 2 * s .limit) (stored s)
+watermark s = isNil (waiters s) && not (s .worker .selfFlushOutstanding) && leb (s .worker .replayBuffer .capacity - 2 * s .limit) (stored s)
 
 -- "after close or a finalise's waiter"
 unfoldable pub closed : Session → Bool
@@ -277,5 +273,4 @@ unless s (row ∷ rows) r = cond (row .0) (answers (refused (row .1)) s) (unless
 -- the session ends: every waiter fails or is dropped; stored and held bytes stay
 unfoldable pub ending : Cause → ℕ → Session → Result
 ending c completed s =
-    answers (ends c completed (length (waiters s)))
-    (setPhase (ended c) nothing (setWorker (setPending [] (s .worker .finalized) (s .worker)) s))
+    answers (ends c completed (length (waiters s))) (setPhase (ended c) nothing (setWorker (setPending [] (s .worker .finalized) (s .worker)) s))

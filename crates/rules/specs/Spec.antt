@@ -24,25 +24,20 @@ pub data AppendObjectSpecState : Type 0 where
   appendForm : AppendObjectSpec → AppendObjectSpecState
 
 abbrev pub bucketOf : AppendObjectSpecState → Bytes
-bucketOf (writeForm w t) = w .bucket
-bucketOf (appendForm a) = a .bucket
+bucketOf = elim [ writeForm w t ↦ w .bucket | appendForm a ↦ a .bucket ]
 
 abbrev pub objectOf : AppendObjectSpecState → Bytes
-objectOf (writeForm w t) = w .object
-objectOf (appendForm a) = a .object
+objectOf = elim [ writeForm w t ↦ w .object | appendForm a ↦ a .object ]
 
 abbrev pub tokenOf : AppendObjectSpecState → Option Bytes
-tokenOf (writeForm w t) = t
-tokenOf (appendForm a) = a .routingToken
+tokenOf = elim [ writeForm w t ↦ t | appendForm a ↦ a .routingToken ]
 
 abbrev pub handleOf : AppendObjectSpecState → Option Bytes
-handleOf (writeForm w t) = none
-handleOf (appendForm a) = a .writeHandle
+handleOf = elim [ writeForm w t ↦ none | appendForm a ↦ a .writeHandle ]
 
 -- the new one where it is given
 abbrev pub refreshed : Option Bytes → Option Bytes → Option Bytes
-refreshed none old = old
-refreshed (some new) old = some new
+refreshed new old = elim new [ none ↦ old | some b ↦ some b ]
 
 -- the Append form that a Write form turns into
 abbrev pub appended : WriteObjectSpec → Generation → Option Bytes → Option Bytes → AppendObjectSpec

@@ -4,8 +4,6 @@ use Rattle.crc32c.specs.Reg.{crcOf, joined}
 use Rattle.rules.specs.Message.{Bytes, Request}
 use Rattle.rules.specs.Session.{ReplayChunk, PendingKind, flushing, finalizing, PendingRequest, Worker, closing, nothing, aRequest, Session, took, sends, waits, ok, Result, answers, setMark, setPending, setWorker, setPhase, isNil, isLive, isEnded, waiters, full, watermark, closed, noSlot, noWaiter, pastEnd, shortOut, choose, Rows, checks, unless}
 
--- ---- a chunk is cut
-
 -- the bytes b as a chunk at the write offset
 abbrev pub chunkOf : Bytes → Session → ReplayChunk
 chunkOf b s = record { writeOffset = s .writeOffset; bytes = b; crc32c = crcOf b }
@@ -33,8 +31,7 @@ pushed c w = record {
 
 -- "joins the chunk's sum to a known running sum"
 abbrev pub joinedSum : Option ℕ → Bytes → Option ℕ
-joinedSum none b = none
-joinedSum (some sum) b = some (joined sum (crcOf b) (length b))
+joinedSum sum b = elim sum [ none ↦ none | some c ↦ some (joined c (crcOf b) (length b)) ]
 
 -- b is cut as one chunk: "a cut moves [the write offset] by the chunk's length"
 abbrev pub stores : Bytes → Session → Session
@@ -113,8 +110,7 @@ requestFor flushing s = flushRequest (s .writeOffset)
 requestFor finalizing s = finishRequest (s .writeOffset) (s .runningCrc32c)
 
 abbrev pub isFinalizing : PendingKind → Bool
-isFinalizing flushing = false
-isFinalizing finalizing = true
+isFinalizing = elim [ flushing ↦ false | finalizing ↦ true ]
 
 abbrev pub waiterOf : PendingKind → Session → PendingRequest
 waiterOf k s = record { kind = k; request = requestFor k s }
@@ -149,8 +145,6 @@ asked k s =
 
 unfoldable pub asks : PendingKind → ℕ → Session → Result
 asks k out s = unless s (askRows out s) (asked k s)
-
--- ---- close
 
 abbrev pub closeRows : Session → Rows
 closeRows s = checks ((isEnded (s .phase), 7) ∷ (not (isLive (s .phase)), 6) ∷ (full s, 8) ∷ [])

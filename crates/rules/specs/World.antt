@@ -1,5 +1,5 @@
 -- The session, the server and the onlooker's notes together, and the events that move them: demand 3's list.
-use Rattle.rules.specs.Basics.{_≡_, Bool, true, false, not, cond, _&&_, Option, none, some, List, [], _∷_, _++_, ℕ, length, getElem?, pos}
+use Rattle.rules.specs.Basics.{_≡_, Bool, true, false, not, cond, _&&_, Option, none, some, Option·getD, List, [], _∷_, _++_, ℕ, length, getElem?, pos}
 use Rattle.crc32c.specs.Reg.{crcOf}
 use Rattle.rules.specs.Message.{Bytes, Request, Response}
 use Rattle.rules.specs.Session.{Session, Call, response, handshake, Answer, Result}
@@ -47,8 +47,7 @@ onLine f w = onServer (onLink f) w
 
 -- The host may send a request that it was handed later, or again. It then goes out of its turn, and the server may cut the connection for it.
 abbrev pub resends : Option Request → Link → Link
-resends none l = l
-resends (some r) l = loses (carries r l)
+resends o l = elim o [ none ↦ l | some r ↦ loses (carries r l) ]
 
 -- the host hands on the next message, if there is one; one that was refused it may keep, to hand it on again
 abbrev pub handsOn : List Response → Bool → Bool → World → World
@@ -93,12 +92,9 @@ unfoldable pub runs : List Event → World → World
 runs [] w = w
 runs (e ∷ es) w = runs es (happens e w)
 
--- ---- the start
-
 -- "The base is the payload, or without one the object at opening"
 abbrev pub baseOf : Option Bytes → Bytes → Bytes
-baseOf none object = object
-baseOf (some b) object = b
+baseOf payload object = Option·getD payload object
 
 -- "At opening P is the true size; without a payload the tail is empty and an opening sum is the object's, with one the two together are the payload."
 -- The object may be finalised already.
