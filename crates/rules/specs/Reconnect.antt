@@ -3,7 +3,7 @@ use Rattle.rules.specs.Basics.{Bool, true, false, not, cond, _&&_, _||_,
 use Rattle.rules.specs.Limits.{maxRedirects}
 use Rattle.rules.specs.Message.{Redirect, Break, redirectIn, isRedirect, isEnd, over, maxHandle, maxToken}
 use Rattle.rules.specs.Spec.{redirected}
-use Rattle.rules.specs.Session.{Connector, Cause, finished, permanent, exhausted, givenUp, streamError, Phase, live, closing, connecting, verdict, replay, ended, nothing, Session, attempt, ok, Result, answers, setConnector, setMark, setWorker, setPhase, isLive, isClosing, isVerdict, isConnecting, isEnded, complete, choose, checks, unless, ending}
+use Rattle.rules.specs.Session.{Connector, Cause, finished, permanent, exhausted, givenUp, streamError, Phase, live, closing, connecting, verdict, replay, ended, nothing, Session, attempt, ok, Result, answers, setConnector, setMark, setCounters, setSpec, setWorker, setPhase, isLive, isClosing, isVerdict, isConnecting, isEnded, complete, choose, checks, unless, ending}
 use Rattle.rules.specs.Respond.{progress}
 
 -- token or handle of a redirect too long
@@ -12,23 +12,12 @@ overlong = elim [ none ↦ false | some r ↦ over maxToken (r .routingToken) ||
 
 -- redirect detail is taken over "for any code"
 abbrev pub rerouted : Option Redirect → Connector → Connector
-rerouted none c = c
-rerouted (some r) c = record {
-  spec = redirected r (c .spec);
-  attemptCount = c .attemptCount;
-  redirectsFollowed = c .redirectsFollowed;
-  lastPersistedSize = c .lastPersistedSize;
-}
+rerouted o c = elim o [ none ↦ c | some r ↦ setSpec (redirected r (c .spec)) c ]
 
 -- "Another break adds 1 to the attempt number, which stays at 2^32 − 1"
 abbrev pub attempted : Bool → Connector → Connector
 attempted true c = c
-attempted false c = record {
-  spec = c .spec;
-  attemptCount = min (suc (c .attemptCount)) (2 ^ 32 - 1);
-  redirectsFollowed = c .redirectsFollowed;
-  lastPersistedSize = c .lastPersistedSize;
-}
+attempted false c = setCounters (min (suc (c .attemptCount)) (2 ^ 32 - 1)) (c .redirectsFollowed) (c .lastPersistedSize) c
 
 -- "Finalise sent and no waiter: *finished*." Closing: "an end of stream finishes, dropping waiters; another break ends with a stream error
 -- unless finished." Otherwise, live: "the mark is cleared; a status with redirect detail replaces ...; P above the last size replaces it and
@@ -55,12 +44,7 @@ ruling redirect followed v =
 
 abbrev pub counted : Bool → Connector → Connector
 counted false c = c
-counted true c = record {
-  spec = c .spec;
-  attemptCount = c .attemptCount;
-  redirectsFollowed = suc (c .redirectsFollowed);
-  lastPersistedSize = c .lastPersistedSize;
-}
+counted true c = setCounters (c .attemptCount) (suc (c .redirectsFollowed)) (c .lastPersistedSize) c
 
 -- "Continue leads to connecting."
 unfoldable pub ruled : Option Cause → Session → Result

@@ -3,7 +3,7 @@ use Rattle.rules.specs.Basics.{Bool, true, false, not, cond, _&&_, _||_,
 use Rattle.crc32c.specs.Reg.{crcOf}
 use Rattle.rules.specs.Message.{Request, Response, sizeOf, isFinalized, over, maxHandle}
 use Rattle.rules.specs.Spec.{noted}
-use Rattle.rules.specs.Session.{ReplayChunk, Connector, PendingKind, flushing, finalizing, PendingRequest, Worker, replay, nothing, bareFlush, regressed, alreadyFinalized, Session, completes, Result, answers, setConnector, setMark, setWorker, setPhase, isLive, isClosing, isConnecting, isEnded, chunks, waiters, watermark, complete, choose, checks, unless, ending}
+use Rattle.rules.specs.Session.{ReplayChunk, Connector, PendingKind, flushing, finalizing, PendingRequest, Worker, replay, nothing, bareFlush, regressed, alreadyFinalized, Session, completes, Result, answers, working, setConnector, setMark, setCounters, setSpec, setWorker, setPhase, isLive, isClosing, isConnecting, isEnded, chunks, waiters, watermark, complete, choose, checks, unless, ending}
 use Rattle.rules.specs.Upload.{flushRequest}
 
 abbrev pub endOffset : ReplayChunk → ℤ
@@ -33,14 +33,9 @@ satisfied n finalised (p ∷ ps) = cond (isSatisfied n finalised p) (suc (satisf
 
 -- P is the size n, chunks and waiters up to it are gone
 abbrev pub absorbs : ℤ → Bool → Worker → Worker
-absorbs n finalised w = record {
-  connector = w .connector;
-  replayBuffer = record { queue = ack n (w .replayBuffer .queue); capacity = w .replayBuffer .capacity };
-  pendingRequests = drop (satisfied n finalised (w .pendingRequests)) (w .pendingRequests);
-  persistedSize = n;
-  finalized = w .finalized;
-  selfFlushOutstanding = w .selfFlushOutstanding;
-}
+absorbs n finalised w =
+    let ps = w .pendingRequests in
+    working (w .connector) (ack n (w .replayBuffer .queue)) (drop (satisfied n finalised ps) ps) n (w .finalized) (w .selfFlushOutstanding) w
 
 -- "no size, only the last step below; size below P, end *regressed*; else P is the size ... A finalised response then ends the session,
 -- *already finalised*, unless finalise was sent and no waiter is left." The last step is given the waiters completed.
@@ -70,12 +65,7 @@ lastStep k s =
 
 -- "updates generation and handle as AppendObjectSpecState"
 abbrev pub updated : Response → Connector → Connector
-updated m c = record {
-  spec = noted m (c .spec);
-  attemptCount = c .attemptCount;
-  redirectsFollowed = c .redirectsFollowed;
-  lastPersistedSize = c .lastPersistedSize;
-}
+updated m c = setSpec (noted m (c .spec)) c
 
 unfoldable pub responds : Response → Session → Result
 responds m s =
@@ -86,8 +76,7 @@ responds m s =
 -- "P above the last size replaces it and zeroes both counters", as does a handshake's size
 abbrev pub progress : Option ℤ → Connector → Connector
 progress none c = c
-progress (some n) c =
-    cond (ltZ (c .lastPersistedSize) n) (record { spec = c .spec; attemptCount = 0; redirectsFollowed = 0; lastPersistedSize = n }) c
+progress (some n) c = cond (ltZ (c .lastPersistedSize) n) (setCounters 0 0 n c) c
 
 unfoldable pub toReplay : ℕ → Session → Result
 toReplay k s = answers (completes k none) (setPhase (replay 0) nothing s)

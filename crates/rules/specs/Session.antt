@@ -112,63 +112,51 @@ pub record Result : Type 0 where
 abbrev pub answers : Answer → Session → Result
 answers a s = record { answer = a; session = s }
 
--- ---- parts set anew
+-- ---- parts set anew: all that a call may change, in the order of the record
 
-abbrev pub setConnector : Connector → Worker → Worker
-setConnector c w = record {
+abbrev pub working : Connector → List ReplayChunk → List PendingRequest → ℤ → Bool → Bool → Worker → Worker
+working c q ps p f m w = record {
   connector = c;
-  replayBuffer = w .replayBuffer;
-  pendingRequests = w .pendingRequests;
-  persistedSize = w .persistedSize;
-  finalized = w .finalized;
-  selfFlushOutstanding = w .selfFlushOutstanding;
-}
-
-abbrev pub setMark : Bool → Worker → Worker
-setMark m w = record {
-  connector = w .connector;
-  replayBuffer = w .replayBuffer;
-  pendingRequests = w .pendingRequests;
-  persistedSize = w .persistedSize;
-  finalized = w .finalized;
+  replayBuffer = record { queue = q; capacity = w .replayBuffer .capacity };
+  pendingRequests = ps;
+  persistedSize = p;
+  finalized = f;
   selfFlushOutstanding = m;
 }
 
-abbrev pub setPending : List PendingRequest → Bool → Worker → Worker
-setPending ps f w = record {
-  connector = w .connector;
-  replayBuffer = w .replayBuffer;
-  pendingRequests = ps;
-  persistedSize = w .persistedSize;
-  finalized = f;
-  selfFlushOutstanding = w .selfFlushOutstanding;
-}
+abbrev pub setConnector : Connector → Worker → Worker
+setConnector c w = working c (w .replayBuffer .queue) (w .pendingRequests) (w .persistedSize) (w .finalized) (w .selfFlushOutstanding) w
 
-abbrev pub setWorker : Worker → Session → Session
-setWorker w s = record {
+abbrev pub setMark : Bool → Worker → Worker
+setMark m w = working (w .connector) (w .replayBuffer .queue) (w .pendingRequests) (w .persistedSize) (w .finalized) m w
+
+abbrev pub setPending : List PendingRequest → Bool → Worker → Worker
+setPending ps f w = working (w .connector) (w .replayBuffer .queue) ps (w .persistedSize) f (w .selfFlushOutstanding) w
+
+abbrev pub setCounters : ℕ → ℕ → ℤ → Connector → Connector
+setCounters attempts redirects size c = record { spec = c .spec; attemptCount = attempts; redirectsFollowed = redirects; lastPersistedSize = size }
+
+abbrev pub setSpec : AppendObjectSpec → Connector → Connector
+setSpec a c = record { spec = a; attemptCount = c .attemptCount; redirectsFollowed = c .redirectsFollowed; lastPersistedSize = c .lastPersistedSize }
+
+abbrev pub going : Phase → Sent → ℕ → ℤ → Option ℕ → Bytes → Worker → Session → Session
+going ph n made at sum held w s = record {
   limit = s .limit;
   slots = s .slots;
-  phase = s .phase;
-  sent = s .sent;
-  made = s .made;
-  writeOffset = s .writeOffset;
-  runningCrc32c = s .runningCrc32c;
-  held = s .held;
+  phase = ph;
+  sent = n;
+  made = made;
+  writeOffset = at;
+  runningCrc32c = sum;
+  held = held;
   worker = w;
 }
 
+abbrev pub setWorker : Worker → Session → Session
+setWorker w s = going (s .phase) (s .sent) (s .made) (s .writeOffset) (s .runningCrc32c) (s .held) w s
+
 abbrev pub setPhase : Phase → Sent → Session → Session
-setPhase p n s = record {
-  limit = s .limit;
-  slots = s .slots;
-  phase = p;
-  sent = n;
-  made = s .made;
-  writeOffset = s .writeOffset;
-  runningCrc32c = s .runningCrc32c;
-  held = s .held;
-  worker = s .worker;
-}
+setPhase ph n s = going ph n (s .made) (s .writeOffset) (s .runningCrc32c) (s .held) (s .worker) s
 
 -- ---- tests
 

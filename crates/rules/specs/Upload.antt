@@ -2,7 +2,7 @@
 use Rattle.rules.specs.Basics.{Bool, true, false, not, cond, _&&_, _||_, Option, none, some, [], _∷_, _++_, ℕ, suc, _-_, min, length, take, leb, ℤ, pos, _+ℤ_}
 use Rattle.crc32c.specs.Reg.{crcOf, joined}
 use Rattle.rules.specs.Message.{Bytes, Request}
-use Rattle.rules.specs.Session.{ReplayChunk, PendingKind, flushing, finalizing, PendingRequest, Worker, closing, nothing, aRequest, Session, took, sends, waits, ok, Result, answers, setMark, setPending, setWorker, setPhase, isNil, isLive, isEnded, waiters, full, watermark, closed, noSlot, noWaiter, pastEnd, shortOut, choose, Rows, checks, unless}
+use Rattle.rules.specs.Session.{ReplayChunk, PendingKind, flushing, finalizing, PendingRequest, Worker, closing, nothing, aRequest, Session, took, sends, waits, ok, Result, answers, working, setMark, setPending, going, setWorker, setPhase, isNil, isLive, isEnded, waiters, full, watermark, closed, noSlot, noWaiter, pastEnd, shortOut, choose, Rows, checks, unless}
 
 -- the bytes b as a chunk at the write offset
 abbrev pub chunkOf : Bytes → Session → ReplayChunk
@@ -20,14 +20,8 @@ chunkRequest c flushes = record {
 }
 
 abbrev pub pushed : ReplayChunk → Worker → Worker
-pushed c w = record {
-  connector = w .connector;
-  replayBuffer = record { queue = w .replayBuffer .queue ++ (c ∷ []); capacity = w .replayBuffer .capacity };
-  pendingRequests = w .pendingRequests;
-  persistedSize = w .persistedSize;
-  finalized = w .finalized;
-  selfFlushOutstanding = w .selfFlushOutstanding;
-}
+pushed c w =
+    working (w .connector) (w .replayBuffer .queue ++ (c ∷ [])) (w .pendingRequests) (w .persistedSize) (w .finalized) (w .selfFlushOutstanding) w
 
 -- "joins the chunk's sum to a known running sum"
 abbrev pub joinedSum : Option ℕ → Bytes → Option ℕ
@@ -35,17 +29,8 @@ joinedSum sum b = elim sum [ none ↦ none | some c ↦ some (joined c (crcOf b)
 
 -- b is cut as one chunk: "a cut moves [the write offset] by the chunk's length"
 abbrev pub stores : Bytes → Session → Session
-stores b s = record {
-  limit = s .limit;
-  slots = s .slots;
-  phase = s .phase;
-  sent = aRequest;
-  made = s .made;
-  writeOffset = s .writeOffset +ℤ pos (length b);
-  runningCrc32c = joinedSum (s .runningCrc32c) b;
-  held = [];
-  worker = pushed (chunkOf b s) (s .worker);
-}
+stores b s =
+    going (s .phase) aRequest (s .made) (s .writeOffset +ℤ pos (length b)) (joinedSum (s .runningCrc32c) b) [] (pushed (chunkOf b s) (s .worker)) s
 
 -- "The request of a newly cut chunk, counted as stored, then also sets flush and state lookup, and marks an own flush."
 abbrev pub cutRequest : Bytes → Session → Request
@@ -64,17 +49,7 @@ abbrev pub holding : Bytes → Session → Bytes
 holding d s = s .held ++ take (room d s) d
 
 unfoldable pub holds : Bytes → Session → Session
-holds b s = record {
-  limit = s .limit;
-  slots = s .slots;
-  phase = s .phase;
-  sent = nothing;
-  made = s .made;
-  writeOffset = s .writeOffset;
-  runningCrc32c = s .runningCrc32c;
-  held = b;
-  worker = s .worker;
-}
+holds b s = going (s .phase) nothing (s .made) (s .writeOffset) (s .runningCrc32c) b (s .worker) s
 
 -- "Held bytes reaching C are cut as one chunk"
 abbrev pub fillsChunk : Bytes → Session → Bool
@@ -117,17 +92,9 @@ waiterOf k s = record { kind = k; request = requestFor k s }
 
 -- the session with one more waiter
 abbrev pub awaits : PendingKind → Session → Session
-awaits k s = record {
-  limit = s .limit;
-  slots = s .slots;
-  phase = s .phase;
-  sent = aRequest;
-  made = suc (s .made);
-  writeOffset = s .writeOffset;
-  runningCrc32c = s .runningCrc32c;
-  held = s .held;
-  worker = setPending (waiters s ++ (waiterOf k s ∷ [])) (s .worker .finalized || isFinalizing k) (s .worker);
-}
+awaits k s =
+    going (s .phase) aRequest (suc (s .made)) (s .writeOffset) (s .runningCrc32c) (s .held)
+    (setPending (waiters s ++ (waiterOf k s ∷ [])) (s .worker .finalized || isFinalizing k) (s .worker)) s
 
 abbrev pub askRows : ℕ → Session → Rows
 askRows out s =
