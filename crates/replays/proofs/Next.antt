@@ -135,8 +135,8 @@ module _ (s : Session) (store : Bytes) (table : List ℕ) (out : Bytes) (n : ℕ
         → Promise (R.nextRequest (length out)) s store table out r store table out′
     next-chunk r out′ m h = record {
       first = first;
-      refuses = λ x f. absurd (h .handed .accepted x f);
-      takes = omega (arith, h .handed .takes);
+      refuses = λ x f. absurd (h .accepts x f);
+      takes = omega (arith, h .none-taken);
       store-beyond = refl;
       table-beyond = refl;
       out-beyond = h .fills;
@@ -149,13 +149,13 @@ module _ (s : Session) (store : Bytes) (table : List ℕ) (out : Bytes) (n : ℕ
     pub next-rest : (r : Outcome) → more ≡ false → HandsRest s at r → Promise (R.nextRequest (length out)) s store table out r store table out
     next-rest r m h = record {
       first = first;
-      refuses = λ x f. absurd (h .bare .handed .accepted x f);
-      takes = omega (arith, h .bare .handed .takes);
+      refuses = λ x f. absurd (h .quiet .accepts x f);
+      takes = omega (arith, h .quiet .none-taken);
       store-beyond = refl;
       table-beyond = refl;
-      out-beyond = rw (h .bare .empty out, h .bare .length-is);
-      sent-is = rw (h .bare .empty out, h .bare .length-is);
-      sent-in = omega (arith, h .bare .length-is);
+      out-beyond = rw (h .quiet .no-data out, h .quiet .none-sent);
+      sent-is = rw (h .quiet .no-data out, h .quiet .none-sent);
+      sent-in = omega (arith, h .quiet .none-sent);
       steps = λ v. h .hands store table out v here (ltb-false _ _ m) .steps ∙ sym (rule-is v ∙ no-chunk v);
       stays = λ v. h .hands store table out v here (ltb-false _ _ m) .stays;
     }

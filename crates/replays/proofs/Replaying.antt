@@ -32,28 +32,40 @@ use Rattle.worker.proofs.Lengths.{no-length, carried-length}
 use Rattle.worker.proofs.Waiters.{element-past}
 use Rattle.transport.specs.View.{phaseOf, lentOf, endOf, view}
 use Rattle.transport.specs.Valid.{marked, owed, CursorAt, Valid}
-use Rattle.transport.specs.Promise.{sentData}
+use Rattle.transport.specs.Promise.{sentData, Quiet}
 use Rattle.transport.specs.Parts.{setPhase, setWorker}
-use Rattle.replays.specs.Replay.{Further, HandsOut, HandsChunk, HandsRest, HandsLast}
+use Rattle.replays.specs.Replay.{Further, HandsChunk, HandsRest, HandsLast}
 use Rattle.transport.specs.declared.Cursor.{Cursor}
 use Rattle.transport.specs.declared.Phase.{Phase}
 use Rattle.transport.specs.declared.Phase.the-variants as phase
 use Rattle.transport.specs.declared.Sent.{Sent}
 use Rattle.transport.specs.declared.Sent.the-variants as sent
 use Rattle.transport.specs.declared.Session.{Session}
+use Rattle.bidi_write.specs.declared.Refusal.{Refusal}
 use Rattle.transport.specs.declared.Answer.the-variants as answer
 use Rattle.transport.specs.declared.Outcome.{Outcome}
 use Rattle.transport.proofs.Numbers.{fits, chunks-are, waiters-are, watermark-is}
 use Rattle.transport.proofs.Bare.{unmarked, bare-is, withMark}
 use Rattle.transport.proofs.Views.{valid-phase}
 
+-- ---- the answers
+
+no-sends : (r : code.Request) (x : Refusal) → answer.Sends r ≡ answer.Refused x → ⊥
+no-sends r x e = let z : _≡_ {A = ℕ} 0 1 = cc in absurd (omega arith)
+
+no-done : (x : Refusal) → answer.Done ≡ answer.Refused x → ⊥
+no-done x e = let z : _≡_ {A = ℕ} 0 1 = cc in absurd (omega arith)
+
+-- a request without data
+quiet : (m : code.Request) (q : Request) → q .checksummedData ≡ none → ((o : Bytes) → requestOf m o ≡ q) → Quiet (answer.Sends m)
+quiet m q e asks = record {
+  accepts = no-sends m;
+  none-taken = refl;
+  none-sent = no-length m [] q (asks []) e;
+  no-data = λ o. ap (λ (r : Request). contentOf (r .checksummedData)) (asks o) ∙ ap contentOf e;
+}
+
 -- ---- the cursor
-
-sends-out : (s : Session) (m : code.Request) → HandsOut (record { session = s; answer = answer.Sends m })
-sends-out s m = record { accepted = λ x e. let z : _≡_ {A = ℕ} 0 1 = cc in absurd (omega arith); takes = refl }
-
-done-out : (s : Session) → HandsOut (record { session = s; answer = answer.Done })
-done-out s = record { accepted = λ x e. let z : _≡_ {A = ℕ} 0 1 = cc in absurd (omega arith); takes = refl }
 
 marked-low : (m : Bool) → marked m ≤ 1
 marked-low true = omega arith
@@ -142,7 +154,8 @@ module _ (s : Session) (store : Bytes) (table : List ℕ) (at : Cursor) (out : B
 
   pub hands-chunk : HandsChunk s store table at out (record { session = setPhase (phase.Replay k) sent.Request s; answer = answer.Sends m }) out′
   hands-chunk = record {
-    handed = sends-out _ m;
+    accepts = no-sends m;
+    none-taken = refl;
     fills = rw (data-is, length-is) (reads .out-is);
     sent-is = rw (data-is, length-is) bytes-length;
     sent-in = omega (arith, length-is, reads .in-out);
@@ -158,11 +171,6 @@ no-data kind.Finalize z sum = refl
 module _ (s : Session) (at : Cursor) (p : PendingRequest) (waits : at .next - s .worker .«replay_buffer» .chunks < s .worker .«pending_requests» .count)
     (found : getElem? (waitersOf (s .worker .«pending_requests»)) (at .next - s .worker .«replay_buffer» .chunks) ≡ some (pendingOf p))
     (m : code.Request) (asks : (o : Bytes) → requestOf m o ≡ (pendingOf p) .request) (k : Cursor) (on : Further at 0 k) where
-  waiter-empty : (out : Bytes) → sentData (answer.Sends m) out ≡ []
-  waiter-empty out =
-      ap (λ (r : Request). contentOf (r .checksummedData)) (asks out)
-      ∙ ap contentOf (no-data (p .kind) (p .«write_offset» .0) (checksumOf (p .«object_checksums»)))
-
   module _ (store : Bytes) (table : List ℕ) (out : Bytes) (v : Valid s store table) (here : s .phase ≡ phase.Replay at)
       (past : s .worker .«replay_buffer» .chunks ≤ at .next) where
     waiter-steps : R.answers (R.sends (requestOf m out)) (view (setPhase (phase.Replay k) sent.Request s) store table)
@@ -181,11 +189,7 @@ module _ (s : Session) (at : Cursor) (p : PendingRequest) (waits : at .next - s 
 
   pub hands-waiter : HandsRest s at (record { session = setPhase (phase.Replay k) sent.Request s; answer = answer.Sends m })
   hands-waiter = record {
-    bare = record {
-      handed = sends-out _ m;
-      empty = waiter-empty;
-      length-is = no-length m [] _ (asks []) (no-data (p .kind) (p .«write_offset» .0) (checksumOf (p .«object_checksums»)));
-    };
+    quiet = quiet m _ (no-data (p .kind) (p .«write_offset» .0) (checksumOf (p .«object_checksums»))) asks;
     hands = λ store table out v here past. record { steps = waiter-steps store table out v here past; stays = waiter-stays store table out v here past };
   }
 
@@ -194,7 +198,7 @@ pub hands-past : (s : Session) (at : Cursor) (r : Outcome) → s .worker .«pend
     → HandsLast s at r → HandsRest s at r
 unfolding P.handsChunk P.handsWaiter
 hands-past s at r h l = record {
-  bare = l .bare;
+  quiet = l .quiet;
   hands = λ store table out v here past. record { steps = l .hands store table out v here past .steps ∙ sym (none-left store table v); stays = l .hands store table out v here past .stays };
 }
   where
@@ -254,18 +258,14 @@ module _ (s : Session) (at : Cursor) (needed : needsFlush s ≡ true) (m : code.
 
   pub hands-flush : HandsLast s at (record { session = marking; answer = answer.Sends m })
   hands-flush = record {
-    bare = record {
-      handed = sends-out _ m;
-      empty = λ out. ap (λ (r : Request). contentOf (r .checksummedData)) (asks out);
-      length-is = no-length m [] _ (asks []) refl;
-    };
+    quiet = quiet m _ refl asks;
     hands = λ store table out v here past. record { steps = flush-steps store table out v here past; stays = flush-stays store table out v here past };
   }
 
 pub hands-done : (s : Session) (at : Cursor) → needsFlush s ≡ false → HandsLast s at (record { session = setPhase phase.Live sent.Nothing s; answer = answer.Done })
 unfolding view R.choose
 hands-done s at e = record {
-  bare = record { handed = done-out _; empty = λ out. refl; length-is = refl };
+  quiet = record { accepts = no-done; none-taken = refl; none-sent = refl; no-data = λ out. refl };
   hands = λ store table out v here past. record {
     steps = sym (chosen (R.watermark (view s store table)) false _ _ (sym (watermark-is s store table v) ∙ e));
     stays = valid-phase phase.Live sent.Nothing s store table v (λ _. followed s store table at v here) tt;

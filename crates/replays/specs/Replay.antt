@@ -1,7 +1,7 @@
 -- What the parts of a next request promise.
 use mathlib.Core.Path.{_≡_}
 use mathlib.Core.Option.{none}
-use mathlib.Core.List.{List, [], _++_}
+use mathlib.Core.List.{List, _++_}
 use Prim.Native.Nat.{ℕ, _+_, _≤_, _<_, _^_}
 use lib.ListN.{length, drop, getElem?}
 use Rattle.rules.specs.Message.{Bytes}
@@ -9,7 +9,7 @@ use Rattle.rules.specs.Session as R
 use Rattle.rules.specs.Replay.{handsChunk, handsLast}
 use Rattle.transport.specs.View.{view, answerOf, takenIn, sentLength}
 use Rattle.transport.specs.Valid.{Valid}
-use Rattle.transport.specs.Promise.{sentData}
+use Rattle.transport.specs.Promise.{sentData, Quiet}
 use Rattle.transport.specs.declared.Cursor.{Cursor}
 use Rattle.transport.specs.declared.Phase.{Phase}
 use Rattle.transport.specs.declared.Phase.the-variants as phase
@@ -40,20 +40,10 @@ pub record Accepts (store : Bytes) (table : List ℕ) (r : Outcome) (out′ : By
   pub steps : R.answers (answerOf (r .answer) out′) (view (r .session) store table) ≡ result
   pub stays : Valid (r .session) store table
 
--- a request, or *done*: no refusal, and nothing is taken
-pub record HandsOut (r : Outcome) : Type 0 where
-  pub accepted : (x : Refusal) → r .answer ≡ answer.Refused x → ⊥
-  pub takes : takenIn (r .answer) ≡ 0
-
--- the same without data
-pub record HandsNoData (r : Outcome) : Type 0 where
-  pub handed : HandsOut r
-  pub empty : (out : Bytes) → sentData (r .answer) out ≡ []
-  pub length-is : sentLength (r .answer) ≡ 0
-
 -- the chunk at the cursor
 pub record HandsChunk (s : Session) (store : Bytes) (table : List ℕ) (at : Cursor) (out : Bytes) (r : Outcome) (out′ : Bytes) : Type 0 where
-  pub handed : HandsOut r
+  pub accepts : (x : Refusal) → r .answer ≡ answer.Refused x → ⊥
+  pub none-taken : takenIn (r .answer) ≡ 0
   pub fills : out′ ≡ sentData (r .answer) out′ ++ drop (sentLength (r .answer)) out
   pub sent-is : length (sentData (r .answer) out′) ≡ sentLength (r .answer)
   pub sent-in : sentLength (r .answer) ≤ length out
@@ -62,12 +52,12 @@ pub record HandsChunk (s : Session) (store : Bytes) (table : List ℕ) (at : Cur
 
 -- what stands behind the chunks
 pub record HandsRest (s : Session) (at : Cursor) (r : Outcome) : Type 0 where
-  pub bare : HandsNoData r
+  pub quiet : Quiet (r .answer)
   pub hands : (store : Bytes) (table : List ℕ) (out : Bytes) → Valid s store table → s .phase ≡ phase.Replay at
       → s .worker .«replay_buffer» .chunks ≤ at .next → Accepts store table r out (handsChunk none (at .next) (view s store table))
 
 -- what stands behind the waiting requests
 pub record HandsLast (s : Session) (at : Cursor) (r : Outcome) : Type 0 where
-  pub bare : HandsNoData r
+  pub quiet : Quiet (r .answer)
   pub hands : (store : Bytes) (table : List ℕ) (out : Bytes) → Valid s store table → s .phase ≡ phase.Replay at
       → s .worker .«replay_buffer» .chunks ≤ at .next → Accepts store table r out (handsLast (at .next) (view s store table))
