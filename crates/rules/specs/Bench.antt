@@ -4,8 +4,7 @@ use Rattle.rules.specs.Message.{Bytes, persistedSize, Response}
 use Rattle.rules.specs.Spec.{writeForm}
 use Rattle.rules.specs.Opening.{Opening, bucketPrefix}
 
--- "responses hold a size alone"
-abbrev pub sized : ℤ → Response
+abbrev pub sized : ℤ → Response  -- "responses hold a size alone"
 sized n = record { writeStatus = some (persistedSize n); writeHandle = none }
 
 -- C, the capacity asked for, the response's size, the payload. "Bucket `projects/_/buckets/b`, object `o`, last size 0; store 32,768 bytes, 64 slots"

@@ -31,7 +31,7 @@ pub record HoldsBeyond (w : World) : Type 0 where
       → w .server .stored .finalised ≡ true
   -- (c) a connection that lost nothing, with every request sent on it, was never cut: no request was answered by a cut
   pub uncut : w .server .link .lossless ≡ true → w .server .link .alive ≡ true
-  -- (d)
+  -- (d) no session regresses
   pub steady : w .session .phase ≢ ended regressed
 
 abbrev pub BeyondDemand3 : Type 0

@@ -18,8 +18,7 @@ pub record ChecksummedData : Type 0 where
 pub record Request : Type 0 where
   pub writeOffset : ℤ
   pub checksummedData : Option ChecksummedData
-  -- the whole object's CRC32C
-  pub objectChecksum : Option ℕ
+  pub objectChecksum : Option ℕ  -- the whole object's CRC32C
   pub stateLookup : Bool
   pub flush : Bool
   pub finishWrite : Bool
@@ -57,15 +56,13 @@ pub data Break : Type 0 where
 abbrev pub redirectIn : Break → Option Redirect
 redirectIn = elim [ endOfStream ↦ none | status code r ↦ r | otherError ↦ none ]
 
--- "It is a redirect only where the code is Aborted too." Aborted is gRPC's 10.
-abbrev pub isRedirect : Break → Bool
+abbrev pub isRedirect : Break → Bool  -- "It is a redirect only where the code is Aborted too." Aborted is gRPC's 10.
 isRedirect = elim [ endOfStream ↦ false | status code none ↦ false | status code (some r) ↦ eqb code 10 | otherError ↦ false ]
 
 abbrev pub isEnd : Break → Bool
 isEnd = elim [ endOfStream ↦ true | status code r ↦ false | otherError ↦ false ]
 
--- given, and over n bytes
-abbrev pub over : ℕ → Option Bytes → Bool
+abbrev pub over : ℕ → Option Bytes → Bool  -- given, and over n bytes
 over n = elim [ none ↦ false | some b ↦ ltb n (length b) ]
 
 abbrev pub maxHandle : ℕ

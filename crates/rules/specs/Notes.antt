@@ -10,20 +10,13 @@ pub record Mark : Type 0 where
   pub before : ℕ
 
 pub record Notes : Type 0 where
-  -- C, as the opening had it
-  pub limit : ℕ
-  -- W: "the base and the bytes taken"
-  pub all : Bytes
-  -- h: "the bytes not chunked"
-  pub loose : ℕ
-  -- the largest of the "sizes stated"
-  pub largest : ℤ
-  -- the waiters made, lowest number first
-  pub marks : List Mark
-  -- "The waiters reported completed are those with the lowest numbers, as many as the answers so far add up to."
-  pub completed : ℕ
-  -- every request handed out
-  pub handed : List Request
+  pub limit : ℕ  -- C, as the opening had it
+  pub all : Bytes  -- W: "the base and the bytes taken"
+  pub loose : ℕ  -- h: "the bytes not chunked"
+  pub largest : ℤ  -- the largest of the "sizes stated"
+  pub marks : List Mark  -- the waiters made, lowest number first
+  pub completed : ℕ  -- "The waiters reported completed are those with the lowest numbers, as many as the answers so far add up to."
+  pub handed : List Request  -- every request handed out
   -- the last accepted handshake's size; the chunk data handed out since, joined; whether the last accepted call answered *done*
   pub greeted : ℤ
   pub carried : Bytes
@@ -37,8 +30,7 @@ pub record Shows : Type 0 where
   -- the number of a waiter made; how many are reported completed
   pub waiter : Option ℕ
   pub completed : ℕ
-  -- the replay is done
-  pub isDone : Bool
+  pub isDone : Bool  -- the replay is done
 
 abbrev pub shows : Answer → Shows
 shows (refused n) = record { accepted = false; request = none; waiter = none; completed = 0; isDone = false }
@@ -69,18 +61,15 @@ dataIn = elim [ none ↦ [] | some r ↦ contentOf (r .checksummedData) ]
 -- ---- what a call brings
 
 pub record Brings : Type 0 where
-  -- of an append
-  pub bytes : Option Bytes
-  -- the kind of the waiter that is asked for
-  pub kind : Option PendingKind
+  pub bytes : Option Bytes  -- of an append
+  pub kind : Option PendingKind  -- the kind of the waiter that is asked for
   -- a response or handshake, and the size that it states; a handshake; a send reported failed
   pub message : Bool
   pub size : Option ℤ
   pub handshake : Bool
   pub failure : Bool
 
--- none of these
-abbrev pub plain : Brings
+abbrev pub plain : Brings  -- none of these
 plain = record { bytes = none; kind = none; message = false; size = none; handshake = false; failure = false }
 
 abbrev pub brings : Call → Brings
@@ -98,8 +87,7 @@ brings (failedAttempt b v) = plain
 
 -- ---- an accepted call is noted
 
--- "the first t bytes of each accepted append, t the smaller of its length and C − h"
-abbrev pub taken : Bytes → Notes → Bytes
+abbrev pub taken : Bytes → Notes → Bytes  -- "the first t bytes of each accepted append, t the smaller of its length and C − h"
 taken d g = take (min (length d) (g .limit - g .loose)) d
 
 -- "h ... grows by t, and goes back to 0 on reaching C, and at an accepted flush or finalise"
@@ -130,6 +118,5 @@ noted b a g = record {
   atDone = a .isDone;
 }
 
--- a refused call leaves the notes as they were
-abbrev pub note : Call → Answer → Notes → Notes
+abbrev pub note : Call → Answer → Notes → Notes  -- a refused call leaves the notes as they were
 note c a g = cond (accepted a) (noted (brings c) (shows a) g) g

@@ -11,8 +11,7 @@ sliced (suc n) limit d =
     let r = sliced n limit (drop limit d) in
     cond (leb limit (length d)) (take limit d ∷ r .0, r .1) ([], d)
 
--- "1. If buffer has partial data, fill it up ... first."
-unfoldable pub push : ℕ → Bytes → Bytes → List Bytes × Bytes
+unfoldable pub push : ℕ → Bytes → Bytes → List Bytes × Bytes  -- "1. If buffer has partial data, fill it up ... first."
 push limit [] d = sliced (length d) limit d
 push limit (x ∷ held) d =
     let needed = limit - length (x ∷ held) in
@@ -21,16 +20,13 @@ push limit (x ∷ held) d =
 
 -- ---- document 01
 
--- "Append takes the smaller of its length and C − held."
-abbrev pub takenBy : ℕ → Bytes → Bytes → ℕ
+abbrev pub takenBy : ℕ → Bytes → Bytes → ℕ  -- "Append takes the smaller of its length and C − held."
 takenBy limit held d = min (length d) (limit - length held)
 
--- one append: "Held bytes reaching C are cut as one chunk"
-unfoldable pub once : ℕ → Bytes → Bytes → List Bytes × Bytes
+unfoldable pub once : ℕ → Bytes → Bytes → List Bytes × Bytes  -- one append: "Held bytes reaching C are cut as one chunk"
 once limit held d = let b = held ++ take (takenBy limit held d) d in cond (leb limit (length b)) (b ∷ [], []) ([], b)
 
--- "repeated until all is taken": at most so many times
-unfoldable pub repeated : ℕ → ℕ → Bytes → Bytes → List Bytes × Bytes
+unfoldable pub repeated : ℕ → ℕ → Bytes → Bytes → List Bytes × Bytes  -- "repeated until all is taken": at most so many times
 repeated zero limit held d = ([], held)
 repeated (suc n) limit held [] = ([], held)
 repeated (suc n) limit held (x ∷ d) =

@@ -6,16 +6,13 @@ use Rattle.rules.specs.Spec.{redirected}
 use Rattle.rules.specs.Session.{Connector, Cause, finished, permanent, exhausted, givenUp, streamError, Phase, live, closing, connecting, verdict, replay, ended, nothing, Session, attempt, ok, Result, answers, setConnector, setMark, setCounters, setSpec, setWorker, setPhase, isLive, isClosing, isVerdict, isConnecting, isEnded, complete, choose, checks, unless, ending}
 use Rattle.rules.specs.Respond.{progress}
 
--- token or handle of a redirect too long
-abbrev pub overlong : Option Redirect → Bool
+abbrev pub overlong : Option Redirect → Bool  -- token or handle of a redirect too long
 overlong = elim [ none ↦ false | some r ↦ over maxToken (r .routingToken) || over maxHandle (r .writeHandle) ]
 
--- redirect detail is taken over "for any code"
-abbrev pub rerouted : Option Redirect → Connector → Connector
+abbrev pub rerouted : Option Redirect → Connector → Connector  -- redirect detail is taken over "for any code"
 rerouted o c = elim o [ none ↦ c | some r ↦ setSpec (redirected r (c .spec)) c ]
 
--- "Another break adds 1 to the attempt number, which stays at 2^32 − 1"
-abbrev pub attempted : Bool → Connector → Connector
+abbrev pub attempted : Bool → Connector → Connector  -- "Another break adds 1 to the attempt number, which stays at 2^32 − 1"
 attempted true c = c
 attempted false c = setCounters (min (suc (c .attemptCount)) (2 ^ 32 - 1)) (c .redirectsFollowed) (c .lastPersistedSize) c
 
@@ -46,8 +43,7 @@ abbrev pub counted : Bool → Connector → Connector
 counted false c = c
 counted true c = setCounters (c .attemptCount) (suc (c .redirectsFollowed)) (c .lastPersistedSize) c
 
--- "Continue leads to connecting."
-unfoldable pub ruled : Option Cause → Session → Result
+unfoldable pub ruled : Option Cause → Session → Result  -- "Continue leads to connecting."
 ruled none s = answers ok (setPhase connecting nothing s)
 ruled (some c) s = ending c 0 s
 

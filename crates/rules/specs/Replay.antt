@@ -4,15 +4,13 @@ use Rattle.rules.specs.Session.{ReplayChunk, PendingRequest, Phase, live
 use Rattle.rules.specs.Upload.{chunkRequest}
 use Rattle.rules.specs.Respond.{bareRequest}
 
--- how many requests the replay has handed out
-abbrev pub place : Phase → ℕ
+abbrev pub place : Phase → ℕ  -- how many requests the replay has handed out
 place = elim [ live ↦ 0 | verdict r ↦ 0 | connecting ↦ 0 | replay i ↦ i | closing ↦ 0 | ended c ↦ 0 ]
 
 abbrev pub given {ℓ} : {A : Type ℓ} → Option A → Bool
 given = elim [ none ↦ false | some a ↦ true ]
 
--- "a bare flush if the watermark holds, then *done*, live again"
-abbrev pub handsLast : ℕ → Session → Result
+abbrev pub handsLast : ℕ → Session → Result  -- "a bare flush if the watermark holds, then *done*, live again"
 handsLast i s =
     choose (watermark s)
     (answers (sends (bareRequest s)) (setPhase (replay (suc i)) bareFlush (setWorker (setMark true (s .worker)) s)))

@@ -9,12 +9,10 @@ use Rattle.rules.specs.Upload.{flushRequest}
 abbrev pub endOffset : ReplayChunk → ℤ
 endOffset c = c .writeOffset +ℤ pos (length (c .bytes))
 
--- "the front one is trimmed with its sum made afresh"
-abbrev pub trimmed : ℤ → ReplayChunk → ReplayChunk
+abbrev pub trimmed : ℤ → ReplayChunk → ReplayChunk  -- "the front one is trimmed with its sum made afresh"
 trimmed n c = let b = drop (natAbs (n -ℤ c .writeOffset)) (c .bytes) in record { writeOffset = n; bytes = b; crc32c = crcOf b }
 
--- "chunks ending at or below it go"
-unfoldable pub ack : ℤ → List ReplayChunk → List ReplayChunk
+unfoldable pub ack : ℤ → List ReplayChunk → List ReplayChunk  -- "chunks ending at or below it go"
 ack n [] = []
 ack n (c ∷ cs) = cond (leZ (endOffset c) n) (ack n cs) (cond (ltZ (c .writeOffset) n) (trimmed n c ∷ cs) (c ∷ cs))
 
@@ -26,13 +24,11 @@ wants finalizing finalised = finalised
 unfoldable pub isSatisfied : ℤ → Bool → PendingRequest → Bool
 isSatisfied n finalised p = leZ (p .request .writeOffset) n && wants (p .kind) finalised
 
--- "Waiters are completed from the front while satisfied": how many
-unfoldable pub satisfied : ℤ → Bool → List PendingRequest → ℕ
+unfoldable pub satisfied : ℤ → Bool → List PendingRequest → ℕ  -- "Waiters are completed from the front while satisfied": how many
 satisfied n finalised [] = 0
 satisfied n finalised (p ∷ ps) = cond (isSatisfied n finalised p) (suc (satisfied n finalised ps)) 0
 
--- P is the size n, chunks and waiters up to it are gone
-abbrev pub absorbs : ℤ → Bool → Worker → Worker
+abbrev pub absorbs : ℤ → Bool → Worker → Worker  -- P is the size n, chunks and waiters up to it are gone
 absorbs n finalised w =
     let ps = w .pendingRequests in
     working (w .connector) (ack n (w .replayBuffer .queue)) (drop (satisfied n finalised ps) ps) n (w .finalized) (w .selfFlushOutstanding) w
@@ -47,8 +43,7 @@ takes (some n) finalised s last =
     let s′ = setWorker (absorbs n finalised (s .worker)) s in
     choose (finalised && not (complete s′)) (ending alreadyFinalized k s′) (last k s′))
 
--- the last chunk's end
-abbrev pub pushedEnd : ℤ → List ReplayChunk → ℤ
+abbrev pub pushedEnd : ℤ → List ReplayChunk → ℤ  -- the last chunk's end
 pushedEnd z [] = z
 pushedEnd z (c ∷ cs) = pushedEnd (endOffset c) cs
 
@@ -63,8 +58,7 @@ lastStep k s =
     (answers (completes k (some (bareRequest s))) (setPhase (s .phase) bareFlush (setWorker (setMark true (s .worker)) s)))
     (answers (completes k none) (setPhase (s .phase) nothing s))
 
--- "updates generation and handle as AppendObjectSpecState"
-abbrev pub updated : Response → Connector → Connector
+abbrev pub updated : Response → Connector → Connector  -- "updates generation and handle as AppendObjectSpecState"
 updated m c = setSpec (noted m (c .spec)) c
 
 unfoldable pub responds : Response → Session → Result

@@ -13,10 +13,8 @@ pub record Stored : Type 0 where
 pub record Link : Type 0 where
   pub requests : List Request
   pub messages : List Response
-  -- not cut
-  pub alive : Bool
-  -- it has lost nothing, and every request was sent on it, once and when it was handed out
-  pub lossless : Bool
+  pub alive : Bool  -- not cut
+  pub lossless : Bool  -- it has lost nothing, and every request was sent on it, once and when it was handed out
 
 pub record Server : Type 0 where
   pub stored : Stored
@@ -28,12 +26,10 @@ setRequests r l = record { requests = r; messages = l .messages; alive = l .aliv
 abbrev pub setMessages : List Response → Link → Link
 setMessages m l = record { requests = l .requests; messages = m; alive = l .alive; lossless = l .lossless }
 
--- something was lost, or not sent in its turn
-abbrev pub loses : Link → Link
+abbrev pub loses : Link → Link  -- something was lost, or not sent in its turn
 loses l = record { requests = l .requests; messages = l .messages; alive = l .alive; lossless = false }
 
--- what is sent on a connection that was cut is lost with it
-abbrev pub carries : Request → Link → Link
+abbrev pub carries : Request → Link → Link  -- what is sent on a connection that was cut is lost with it
 carries r l = setRequests (cond (l .alive) (l .requests ++ (r ∷ [])) (l .requests)) l
 
 abbrev pub onLink : (Link → Link) → Server → Server
@@ -50,8 +46,7 @@ cutOff bytes had v = record {
   link = record { requests = []; messages = take had (v .link .messages); alive = false; lossless = v .link .lossless };
 }
 
--- "An accepted handshake begins the next connection, with no tail"
-abbrev pub connects : Server → Server
+abbrev pub connects : Server → Server  -- "An accepted handshake begins the next connection, with no tail"
 connects v = record {
   stored = record { object = v .stored .object; tail = []; finalised = v .stored .finalised };
   link = record { requests = []; messages = []; alive = true; lossless = true };
@@ -89,8 +84,7 @@ abbrev pub takesNext : List Request → ℕ → ℕ → Server → Server
 takesNext [] bytes had v = v
 takesNext (r ∷ rest) bytes had v = takesOne r (r .checksummedData) bytes had (onLink (setRequests rest) v)
 
--- "Any front part of the tail may become persisted."
-abbrev pub persists : ℕ → Stored → Stored
+abbrev pub persists : ℕ → Stored → Stored  -- "Any front part of the tail may become persisted."
 persists n k = record { object = k .object ++ take n (k .tail); tail = drop n (k .tail); finalised = k .finalised }
 
 -- how a size is told: alone, or in a resource with a generation, which may be marked finalised

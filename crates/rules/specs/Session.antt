@@ -34,12 +34,9 @@ pub record Worker : Type 0 where
   pub connector : Connector
   pub replayBuffer : ReplayBuffer
   pub pendingRequests : List PendingRequest
-  -- P
-  pub persistedSize : ℤ
-  -- finalise was sent
-  pub finalized : Bool
-  -- the mark: an own flush is outstanding
-  pub selfFlushOutstanding : Bool
+  pub persistedSize : ℤ  -- P
+  pub finalized : Bool  -- finalise was sent
+  pub selfFlushOutstanding : Bool  -- the mark: an own flush is outstanding
 
 -- "Ends other than *finished* fail every waiter."
 pub data Cause : Type 0 where
@@ -58,19 +55,14 @@ pub data Sent : Type 0 where
 
 -- the crate's transport with its worker
 pub record Session : Type 0 where
-  -- C
-  pub limit : ℕ
-  -- of the chunk table
-  pub slots : ℕ
+  pub limit : ℕ  -- C
+  pub slots : ℕ  -- of the chunk table
   pub phase : Phase
   pub sent : Sent
-  -- waiters made so far
-  pub made : ℕ
+  pub made : ℕ  -- waiters made so far
   pub writeOffset : ℤ
-  -- unknown: none
-  pub runningCrc32c : Option ℕ
-  -- held: what the coalescing buffer has
-  pub held : Bytes
+  pub runningCrc32c : Option ℕ  -- unknown: none
+  pub held : Bytes  -- what the coalescing buffer has
   pub worker : Worker
 
 -- ---- calls and answers
@@ -86,24 +78,15 @@ pub data Call : Type 0 where
   failedAttempt : Break → ℕ → Call
 
 pub data Answer : Type 0 where
-  -- the number of document 01's table
-  refused : ℕ → Answer
-  -- append: bytes taken, and the request of the chunk that was cut
-  took : ℕ → Option Request → Answer
-  -- flush, finalise: held bytes were cut, call again; next request: the one to send
-  sends : Request → Answer
-  -- flush, finalise: the request, and the number of the waiter made
-  waits : Request → ℕ → Answer
-  -- response, handshake: waiters completed, lowest numbers first, and a bare flush
-  completes : ℕ → Option Request → Answer
-  -- break: the attempt number, 0 on a redirect
-  attempt : ℕ → Answer
-  -- close, a verdict or failed attempt that goes on, a send reported failed
-  ok : Answer
-  -- next request: the replay is done
-  done : Answer
-  -- the call ended the session: cause, waiters completed before, waiters failed or dropped
-  ends : Cause → ℕ → ℕ → Answer
+  refused : ℕ → Answer  -- the number of document 01's table
+  took : ℕ → Option Request → Answer  -- append: bytes taken, and the request of the chunk that was cut
+  sends : Request → Answer  -- flush, finalise: held bytes were cut, call again; next request: the one to send
+  waits : Request → ℕ → Answer  -- flush, finalise: the request, and the number of the waiter made
+  completes : ℕ → Option Request → Answer  -- response, handshake: waiters completed, lowest numbers first, and a bare flush
+  attempt : ℕ → Answer  -- break: the attempt number, 0 on a redirect
+  ok : Answer  -- close, a verdict or failed attempt that goes on, a send reported failed
+  done : Answer  -- next request: the replay is done
+  ends : Cause → ℕ → ℕ → Answer  -- the call ended the session: cause, waiters completed before, waiters failed or dropped
 
 pub record Result : Type 0 where
   pub answer : Answer
@@ -140,17 +123,8 @@ abbrev pub setSpec : AppendObjectSpec → Connector → Connector
 setSpec a c = record { spec = a; attemptCount = c .attemptCount; redirectsFollowed = c .redirectsFollowed; lastPersistedSize = c .lastPersistedSize }
 
 abbrev pub going : Phase → Sent → ℕ → ℤ → Option ℕ → Bytes → Worker → Session → Session
-going ph n made at sum held w s = record {
-  limit = s .limit;
-  slots = s .slots;
-  phase = ph;
-  sent = n;
-  made = made;
-  writeOffset = at;
-  runningCrc32c = sum;
-  held = held;
-  worker = w;
-}
+going ph n made at sum held w s =
+    record { limit = s .limit; slots = s .slots; phase = ph; sent = n; made = made; writeOffset = at; runningCrc32c = sum; held = held; worker = w }
 
 abbrev pub setWorker : Worker → Session → Session
 setWorker w s = going (s .phase) (s .sent) (s .made) (s .writeOffset) (s .runningCrc32c) (s .held) w s
@@ -190,50 +164,40 @@ chunks s = s .worker .replayBuffer .queue
 abbrev pub waiters : Session → List PendingRequest
 waiters s = s .worker .pendingRequests
 
--- the bytes of the chunks, joined
-abbrev pub bytesOf : List ReplayChunk → Bytes
+abbrev pub bytesOf : List ReplayChunk → Bytes  -- the bytes of the chunks, joined
 bytesOf [] = []
 bytesOf (c ∷ cs) = c .bytes ++ bytesOf cs
 
 unfoldable pub stored : Session → ℕ
 stored s = length (bytesOf (chunks s))
 
--- "stored bytes are at or above capacity"
-unfoldable pub full : Session → Bool
+unfoldable pub full : Session → Bool  -- "stored bytes are at or above capacity"
 full s = leb (s .worker .replayBuffer .capacity) (stored s)
 
--- "Watermark: no waiter, no own flush outstanding, stored ≥ capacity − 2 × C."
-unfoldable pub watermark : Session → Bool
+unfoldable pub watermark : Session → Bool  -- "Watermark: no waiter, no own flush outstanding, stored ≥ capacity − 2 × C."
 watermark s = isNil (waiters s) && not (s .worker .selfFlushOutstanding) && leb (s .worker .replayBuffer .capacity - 2 * s .limit) (stored s)
 
--- "after close or a finalise's waiter"
-unfoldable pub closed : Session → Bool
+unfoldable pub closed : Session → Bool  -- "after close or a finalise's waiter"
 closed s = isClosing (s .phase) || s .worker .finalized
 
--- "no free chunk slot"
-unfoldable pub noSlot : Session → Bool
+unfoldable pub noSlot : Session → Bool  -- "no free chunk slot"
 noSlot s = leb (s .slots) (length (chunks s))
 
--- "16 waiters wait, or 2^64 − 1 were made"
-unfoldable pub noWaiter : Session → Bool
+unfoldable pub noWaiter : Session → Bool  -- "16 waiters wait, or 2^64 − 1 were made"
 noWaiter s = leb maxWaiters (length (waiters s)) || leb (2 ^ 64 - 1) (s .made)
 
--- "a chunk would end past 2^63 − 1"
-unfoldable pub pastEnd : Bytes → Session → Bool
+unfoldable pub pastEnd : Bytes → Session → Bool  -- "a chunk would end past 2^63 − 1"
 pastEnd b s = ltZ (pos (2 ^ 63 - 1)) (s .writeOffset +ℤ pos (length b))
 
--- "out buffer shorter than C"
-unfoldable pub shortOut : ℕ → Session → Bool
+unfoldable pub shortOut : ℕ → Session → Bool  -- "out buffer shorter than C"
 shortOut out s = ltb out (s .limit)
 
--- finalise was sent and no waiter is left
-unfoldable pub complete : Session → Bool
+unfoldable pub complete : Session → Bool  -- finalise was sent and no waiter is left
 complete s = s .worker .finalized && isNil (waiters s)
 
 -- ---- refusals and ends
 
--- a test and its number in document 01's table
-abbrev pub Rows : Type 0
+abbrev pub Rows : Type 0  -- a test and its number in document 01's table
 Rows = List (Bool × ℕ)
 
 abbrev pub numbered : ℕ → Rows → Rows
@@ -244,12 +208,10 @@ abbrev pub inOrder : List ℕ → Rows → Rows
 inOrder [] rows = []
 inOrder (n ∷ ns) rows = numbered n rows ++ inOrder ns rows
 
--- "Later calls check 7, 12, 6, 13, 4, 11, 8, 9, 10, as far as they apply."
-abbrev pub checks : Rows → Rows
+abbrev pub checks : Rows → Rows  -- "Later calls check 7, 12, 6, 13, 4, 11, 8, 9, 10, as far as they apply."
 checks = inOrder (7 ∷ 12 ∷ 6 ∷ 13 ∷ 4 ∷ 11 ∷ 8 ∷ 9 ∷ 10 ∷ [])
 
--- one of two results
-unfoldable pub choose : Bool → Result → Result → Result
+unfoldable pub choose : Bool → Result → Result → Result  -- one of two results
 choose true x y = x
 choose false x y = y
 
@@ -258,7 +220,6 @@ unfoldable pub unless : Session → Rows → Result → Result
 unless s [] r = r
 unless s (row ∷ rows) r = cond (row .0) (answers (refused (row .1)) s) (unless s rows r)
 
--- the session ends: every waiter fails or is dropped; stored and held bytes stay
-unfoldable pub ending : Cause → ℕ → Session → Result
+unfoldable pub ending : Cause → ℕ → Session → Result  -- the session ends: every waiter fails or is dropped; stored and held bytes stay
 ending c completed s =
     answers (ends c completed (length (waiters s))) (setPhase (ended c) nothing (setWorker (setPending [] (s .worker .finalized) (s .worker)) s))

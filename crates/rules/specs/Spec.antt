@@ -35,8 +35,7 @@ tokenOf = elim [ writeForm w t ↦ t | appendForm a ↦ a .routingToken ]
 abbrev pub handleOf : AppendObjectSpecState → Option Bytes
 handleOf = elim [ writeForm w t ↦ none | appendForm a ↦ a .writeHandle ]
 
--- the new one where it is given
-abbrev pub refreshed : Option Bytes → Option Bytes → Option Bytes
+abbrev pub refreshed : Option Bytes → Option Bytes → Option Bytes  -- the new one where it is given
 refreshed new old = elim new [ none ↦ old | some b ↦ some b ]
 
 -- the Append form that a Write form turns into
@@ -61,8 +60,7 @@ renewed g handle token a =
 abbrev pub noted : Response → AppendObjectSpec → AppendObjectSpec
 noted m a = renewed (Option·getD (generationOf (m .writeStatus)) (a .generation)) (refreshed (m .writeHandle) (a .writeHandle)) (a .routingToken) a
 
--- after a response the form is Append
-unfoldable pub handleResponse : Response → AppendObjectSpecState → AppendObjectSpec
+unfoldable pub handleResponse : Response → AppendObjectSpecState → AppendObjectSpec  -- after a response the form is Append
 handleResponse m (writeForm w token) =
     appended w (Option·getD (generationOf (m .writeStatus)) (record { number = pos 0 })) (m .writeHandle) token
 handleResponse m (appendForm a) = noted m a

@@ -4,8 +4,7 @@ use Rattle.crc32c.specs.Reg.{crcOf, joined}
 use Rattle.rules.specs.Message.{Bytes, Request}
 use Rattle.rules.specs.Session.{ReplayChunk, PendingKind, flushing, finalizing, PendingRequest, Worker, closing, nothing, aRequest, Session, took, sends, waits, ok, Result, answers, working, setMark, setPending, going, setWorker, setPhase, isNil, isLive, isEnded, waiters, full, watermark, closed, noSlot, noWaiter, pastEnd, shortOut, choose, Rows, checks, unless}
 
--- the bytes b as a chunk at the write offset
-abbrev pub chunkOf : Bytes → Session → ReplayChunk
+abbrev pub chunkOf : Bytes → Session → ReplayChunk  -- the bytes b as a chunk at the write offset
 chunkOf b s = record { writeOffset = s .writeOffset; bytes = b; crc32c = crcOf b }
 
 -- "A chunk request has offset, bytes, CRC32C"; under the watermark it "also sets flush and state lookup"
@@ -23,12 +22,10 @@ abbrev pub pushed : ReplayChunk → Worker → Worker
 pushed c w =
     working (w .connector) (w .replayBuffer .queue ++ (c ∷ [])) (w .pendingRequests) (w .persistedSize) (w .finalized) (w .selfFlushOutstanding) w
 
--- "joins the chunk's sum to a known running sum"
-abbrev pub joinedSum : Option ℕ → Bytes → Option ℕ
+abbrev pub joinedSum : Option ℕ → Bytes → Option ℕ  -- "joins the chunk's sum to a known running sum"
 joinedSum sum b = elim sum [ none ↦ none | some c ↦ some (joined c (crcOf b) (length b)) ]
 
--- b is cut as one chunk: "a cut moves [the write offset] by the chunk's length"
-abbrev pub stores : Bytes → Session → Session
+abbrev pub stores : Bytes → Session → Session  -- b is cut as one chunk: "a cut moves [the write offset] by the chunk's length"
 stores b s =
     going (s .phase) aRequest (s .made) (s .writeOffset +ℤ pos (length b)) (joinedSum (s .runningCrc32c) b) [] (pushed (chunkOf b s) (s .worker)) s
 
@@ -41,8 +38,7 @@ cuts b s = setWorker (setMark (s .worker .selfFlushOutstanding || watermark (sto
 
 -- ---- append
 
--- "Append takes the smaller of its length and C − held."
-abbrev pub room : Bytes → Session → ℕ
+abbrev pub room : Bytes → Session → ℕ  -- "Append takes the smaller of its length and C − held."
 room d s = min (length d) (s .limit - length (s .held))
 
 abbrev pub holding : Bytes → Session → Bytes
@@ -51,8 +47,7 @@ holding d s = s .held ++ take (room d s) d
 unfoldable pub holds : Bytes → Session → Session
 holds b s = going (s .phase) nothing (s .made) (s .writeOffset) (s .runningCrc32c) b (s .worker) s
 
--- "Held bytes reaching C are cut as one chunk"
-abbrev pub fillsChunk : Bytes → Session → Bool
+abbrev pub fillsChunk : Bytes → Session → Bool  -- "Held bytes reaching C are cut as one chunk"
 fillsChunk d s = leb (s .limit) (length (holding d s))
 
 -- of an append of at least a byte: "an append that cuts nothing needs no phase but not ended"
@@ -90,8 +85,7 @@ isFinalizing = elim [ flushing ↦ false | finalizing ↦ true ]
 abbrev pub waiterOf : PendingKind → Session → PendingRequest
 waiterOf k s = record { kind = k; request = requestFor k s }
 
--- the session with one more waiter
-abbrev pub awaits : PendingKind → Session → Session
+abbrev pub awaits : PendingKind → Session → Session  -- the session with one more waiter
 awaits k s =
     going (s .phase) aRequest (suc (s .made)) (s .writeOffset) (s .runningCrc32c) (s .held)
     (setPending (waiters s ++ (waiterOf k s ∷ [])) (s .worker .finalized || isFinalizing k) (s .worker)) s
@@ -116,6 +110,5 @@ asks k out s = unless s (askRows out s) (asked k s)
 abbrev pub closeRows : Session → Rows
 closeRows s = checks ((isEnded (s .phase), 7) ∷ (not (isLive (s .phase)), 6) ∷ (full s, 8) ∷ [])
 
--- "Close needs the live phase and stored below capacity. Held bytes are not sent."
-unfoldable pub closes : Session → Result
+unfoldable pub closes : Session → Result  -- "Close needs the live phase and stored below capacity. Held bytes are not sent."
 closes s = unless s (closeRows s) (answers ok (setPhase closing nothing s))

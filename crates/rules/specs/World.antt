@@ -21,15 +21,13 @@ sending sent none l = l
 sending true (some r) l = carries r l
 sending false (some r) l = loses l
 
--- what an answer does to the connection
-abbrev pub onAnswer : Brings → Bool → Answer → Server → Server
+abbrev pub onAnswer : Brings → Bool → Answer → Server → Server  -- what an answer does to the connection
 onAnswer b sent a v =
     cond (b .handshake) (cond (accepted a) (connects v) v)
     (cond (b .failure) (cond (accepted a) (onLink loses v) v)
     (onLink (sending sent (requestIn a)) v))
 
--- the world after the session gave r to the call c
-abbrev pub after : Call → Bool → World → Result → World
+abbrev pub after : Call → Bool → World → Result → World  -- the world after the session gave r to the call c
 after c sent w r = record {
   session = r .session;
   server = onAnswer (brings c) sent (r .answer) (w .server);
@@ -59,20 +57,17 @@ handsOn (m ∷ rest) sent keep w =
 -- ---- events
 
 pub data Event : Type 0 where
-  -- the host makes a call of its own accord; whether what it hands out can be sent
-  hostCalls : Call → Bool → Event
+  hostCalls : Call → Bool → Event  -- the host makes a call of its own accord; whether what it hands out can be sent
   -- the host hands on the connection's next message; whether a bare flush can be sent; whether it keeps a refused message
   hostHands : Bool → Bool → Event
   -- the host sends a request on the present connection, later or again: the one with this number of all that it was handed
   hostSends : ℕ → Event
-  -- the host reports a handshake, "and states the true size"
-  hostGreets : Told → Option Bytes → Event
+  hostGreets : Told → Option Bytes → Event  -- the host reports a handshake, "and states the true size"
   -- the server takes the next request; if it must cut the connection for it, what stays of tail and messages
   serverTakes : ℕ → ℕ → Event
   serverPersists : ℕ → Event
   serverSays : Option Told → Option Bytes → Event
-  -- the connection is cut: what stays of tail and messages
-  linkCuts : ℕ → ℕ → Event
+  linkCuts : ℕ → ℕ → Event  -- the connection is cut: what stays of tail and messages
 
 -- the calls that a host makes of its own accord: a response and a handshake bring what the server said
 abbrev pub unprompted : Call → Bool
@@ -92,8 +87,7 @@ unfoldable pub runs : List Event → World → World
 runs [] w = w
 runs (e ∷ es) w = runs es (happens e w)
 
--- "The base is the payload, or without one the object at opening"
-abbrev pub baseOf : Option Bytes → Bytes → Bytes
+abbrev pub baseOf : Option Bytes → Bytes → Bytes  -- "The base is the payload, or without one the object at opening"
 baseOf payload object = Option·getD payload object
 
 -- "At opening P is the true size; without a payload the tail is empty and an opening sum is the object's, with one the two together are the payload."
