@@ -34,10 +34,8 @@ breaks b s =
 -- that cause." On a redirect or not, redirects followed before, verdict: the cause, if it ends
 abbrev pub ruling : Bool → ℕ → ℕ → Option Cause
 ruling redirect followed v =
-    cond (eqb v 4) (some givenUp)
-    (cond (redirect && ltb followed maxRedirects) none
-    (cond (eqb v 2) (some permanent)
-    (cond (redirect || eqb v 3) (some exhausted) none)))
+    cond (eqb v 4) (some givenUp) (cond (redirect && ltb followed maxRedirects) none
+    (cond (eqb v 2) (some permanent) (cond (redirect || eqb v 3) (some exhausted) none)))
 
 abbrev pub counted : Bool → Connector → Connector
 counted false c = c

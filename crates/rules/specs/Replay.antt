@@ -42,6 +42,5 @@ isBare = elim [ nothing ↦ false | aRequest ↦ false | bareFlush ↦ true ]
 unfoldable pub unsent : Session → Result
 unsent s =
     unless s (checks ((isEnded (s .phase), 7) ∷ (isNothing (s .sent), 6) ∷ []))
-    (answers ok
-    (setPhase (cond (isReplay (s .phase)) live (s .phase)) nothing
+    (answers ok (setPhase (cond (isReplay (s .phase)) live (s .phase)) nothing
     (setWorker (setMark (s .worker .selfFlushOutstanding && not (isBare (s .sent))) (s .worker)) s)))

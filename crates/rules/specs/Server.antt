@@ -52,8 +52,6 @@ connects v = record {
   link = record { requests = []; messages = []; alive = true; lossless = true };
 }
 
--- ---- a request is taken
-
 abbrev pub isAt : ℤ → Bytes → Bool
 isAt z b = elim z [ pos n ↦ eqb n (length b) | negsuc n ↦ false ]
 

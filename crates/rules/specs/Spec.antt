@@ -61,8 +61,7 @@ abbrev pub noted : Response → AppendObjectSpec → AppendObjectSpec
 noted m a = renewed (Option·getD (generationOf (m .writeStatus)) (a .generation)) (refreshed (m .writeHandle) (a .writeHandle)) (a .routingToken) a
 
 unfoldable pub handleResponse : Response → AppendObjectSpecState → AppendObjectSpec  -- after a response the form is Append
-handleResponse m (writeForm w token) =
-    appended w (Option·getD (generationOf (m .writeStatus)) (record { number = pos 0 })) (m .writeHandle) token
+handleResponse m (writeForm w token) = appended w (Option·getD (generationOf (m .writeStatus)) (record { number = pos 0 })) (m .writeHandle) token
 handleResponse m (appendForm a) = noted m a
 
 -- "a status with redirect detail replaces the token, even by none, and handle and generation where it has them"

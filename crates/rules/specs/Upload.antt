@@ -36,8 +36,6 @@ cutRequest b s = chunkRequest (chunkOf b s) (watermark (stores b s))
 abbrev pub cuts : Bytes → Session → Session
 cuts b s = setWorker (setMark (s .worker .selfFlushOutstanding || watermark (stores b s)) ((stores b s) .worker)) (stores b s)
 
--- ---- append
-
 abbrev pub room : Bytes → Session → ℕ  -- "Append takes the smaller of its length and C − held."
 room d s = min (length d) (s .limit - length (s .held))
 
@@ -54,8 +52,7 @@ fillsChunk d s = leb (s .limit) (length (holding d s))
 abbrev pub appendRows : Bytes → ℕ → Session → Rows
 appendRows d out s =
     let cuts = fillsChunk d s in
-    checks
-    ((isEnded (s .phase), 7) ∷ (closed s, 12) ∷ (cuts && not (isLive (s .phase)), 6) ∷ (cuts && shortOut out s, 11)
+    checks ((isEnded (s .phase), 7) ∷ (closed s, 12) ∷ (cuts && not (isLive (s .phase)), 6) ∷ (cuts && shortOut out s, 11)
     ∷ (cuts && full s, 8) ∷ (cuts && noSlot s, 9) ∷ (cuts && pastEnd (holding d s) s, 10) ∷ [])
 
 abbrev pub appended : Bytes → Session → Result
@@ -65,8 +62,6 @@ appended d s =
 
 unfoldable pub appends : Bytes → ℕ → Session → Result
 appends d out s = unless s (appendRows d out s) (appended d s)
-
--- ---- flush and finalise
 
 -- "The flush request sets flush and state lookup; finalise sets finish and flush, and the running sum if known."
 abbrev pub flushRequest : ℤ → Request
@@ -93,8 +88,7 @@ awaits k s =
 abbrev pub askRows : ℕ → Session → Rows
 askRows out s =
     let cuts = not (isNil (s .held)) in
-    checks
-    ((isEnded (s .phase), 7) ∷ (closed s, 12) ∷ (not (isLive (s .phase)), 6) ∷ (cuts && shortOut out s, 11)
+    checks ((isEnded (s .phase), 7) ∷ (closed s, 12) ∷ (not (isLive (s .phase)), 6) ∷ (cuts && shortOut out s, 11)
     ∷ (full s, 8) ∷ (cond cuts (noSlot s) (noWaiter s), 9) ∷ (cuts && pastEnd (s .held) s, 10) ∷ [])
 
 -- "Flush, and finalise, with held bytes cut them as one chunk and make no waiter; the call is repeated. With none held they send their

@@ -13,8 +13,6 @@ pub record World : Type 0 where
   pub server : Server
   pub notes : Notes
 
--- ---- a call
-
 -- The host "sends each request once, on the present connection, or reports it failed": `sent` says whether it could send.
 abbrev pub sending : Bool → Option Request → Link → Link
 sending sent none l = l
@@ -28,11 +26,7 @@ onAnswer b sent a v =
     (onLink (sending sent (requestIn a)) v))
 
 abbrev pub after : Call → Bool → World → Result → World  -- the world after the session gave r to the call c
-after c sent w r = record {
-  session = r .session;
-  server = onAnswer (brings c) sent (r .answer) (w .server);
-  notes = note c (r .answer) (w .notes);
-}
+after c sent w r = record { session = r .session; server = onAnswer (brings c) sent (r .answer) (w .server); notes = note c (r .answer) (w .notes) }
 
 abbrev pub calls : Call → Bool → World → World
 calls c sent w = after c sent w (step c (w .session))
