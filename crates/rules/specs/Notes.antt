@@ -22,9 +22,7 @@ pub record Notes : Type 0 where
   pub carried : Bytes
   pub atDone : Bool
 
--- ---- what an answer shows
-
-pub record Shows : Type 0 where
+pub record Shows : Type 0 where  -- what an answer shows
   pub accepted : Bool
   pub request : Option Request
   -- the number of a waiter made; how many are reported completed
@@ -58,9 +56,7 @@ contentOf = elim [ none ↦ [] | some d ↦ d .content ]
 abbrev pub dataIn : Option Request → Bytes
 dataIn = elim [ none ↦ [] | some r ↦ contentOf (r .checksummedData) ]
 
--- ---- what a call brings
-
-pub record Brings : Type 0 where
+pub record Brings : Type 0 where  -- what a call brings
   pub bytes : Option Bytes  -- of an append
   pub kind : Option PendingKind  -- the kind of the waiter that is asked for
   -- a response or handshake, and the size that it states; a handshake; a send reported failed
@@ -85,8 +81,6 @@ brings (break b) = plain
 brings (judge v) = plain
 brings (failedAttempt b v) = plain
 
--- ---- an accepted call is noted
-
 abbrev pub taken : Bytes → Notes → Bytes  -- "the first t bytes of each accepted append, t the smaller of its length and C − h"
 taken d g = take (min (length d) (g .limit - g .loose)) d
 
@@ -104,7 +98,7 @@ marksWith (some k) (some n) g = g .marks ++ (record { kind = k; before = length 
 abbrev pub largestOf : ℤ → Option ℤ → ℤ
 largestOf z = elim [ none ↦ z | some n ↦ larger z n ]
 
-abbrev pub noted : Brings → Shows → Notes → Notes
+abbrev pub noted : Brings → Shows → Notes → Notes  -- an accepted call is noted
 noted b a g = record {
   limit = g .limit;
   all = elim (b .bytes) [ none ↦ g .all | some d ↦ g .all ++ taken d g ];

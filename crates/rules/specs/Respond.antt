@@ -16,8 +16,7 @@ unfoldable pub ack : ℤ → List ReplayChunk → List ReplayChunk  -- "chunks e
 ack n [] = []
 ack n (c ∷ cs) = cond (leZ (endOffset c) n) (ack n cs) (cond (ltZ (c .writeOffset) n) (trimmed n c ∷ cs) (c ∷ cs))
 
--- "A flush wants size ≥ its offset and not finalised; a finalise wants the size and finalised."
-abbrev pub wants : PendingKind → Bool → Bool
+abbrev pub wants : PendingKind → Bool → Bool  -- "A flush wants size ≥ its offset and not finalised; a finalise wants the size and finalised."
 wants flushing finalised = not finalised
 wants finalizing finalised = finalised
 
@@ -51,8 +50,7 @@ pushedEnd z (c ∷ cs) = pushedEnd (endOffset c) cs
 abbrev pub bareRequest : Session → Request
 bareRequest s = flushRequest (pushedEnd (pos 0) (chunks s))
 
--- "If still live and the watermark holds, one bare flush request ... is sent and marked."
-unfoldable pub lastStep : ℕ → Session → Result
+unfoldable pub lastStep : ℕ → Session → Result  -- "If still live and the watermark holds, one bare flush request ... is sent and marked."
 lastStep k s =
     choose (isLive (s .phase) && watermark s)
     (answers (completes k (some (bareRequest s))) (setPhase (s .phase) bareFlush (setWorker (setMark true (s .worker)) s)))
@@ -67,8 +65,7 @@ responds m s =
     (takes (sizeOf (m .writeStatus)) (isFinalized (m .writeStatus))
     (setWorker (setConnector (updated m (s .worker .connector)) (setMark false (s .worker))) s) lastStep)
 
--- "P above the last size replaces it and zeroes both counters", as does a handshake's size
-abbrev pub progress : Option ℤ → Connector → Connector
+abbrev pub progress : Option ℤ → Connector → Connector  -- "P above the last size replaces it and zeroes both counters", as does a handshake's size
 progress none c = c
 progress (some n) c = cond (ltZ (c .lastPersistedSize) n) (setCounters 0 0 n c) c
 

@@ -62,15 +62,13 @@ isSum o b = elim o [ none ↦ true | some sum ↦ eqb sum (crcOf b) ]
 abbrev pub takesChunk : ℤ → ChecksummedData → ℕ → ℕ → Server → Server
 takesChunk at d bytes had v =
     cond (isAt at (v .stored .object ++ v .stored .tail) && eqb (d .crc32c) (crcOf (d .content)))
-    (onStored (λ k. record { object = k .object; tail = k .tail ++ d .content; finalised = k .finalised }) v)
-    (cutOff bytes had v)
+    (onStored (λ k. record { object = k .object; tail = k .tail ++ d .content; finalised = k .finalised }) v) (cutOff bytes had v)
 
 -- "finish, which persists all and finalises if offset and a given sum are right, else cuts"
 abbrev pub takesFinish : ℤ → Option ℕ → ℕ → ℕ → Server → Server
 takesFinish at sum bytes had v =
     cond (isAt at (v .stored .object ++ v .stored .tail) && isSum sum (v .stored .object ++ v .stored .tail))
-    (onStored (λ k. record { object = k .object ++ k .tail; tail = []; finalised = true }) v)
-    (cutOff bytes had v)
+    (onStored (λ k. record { object = k .object ++ k .tail; tail = []; finalised = true }) v) (cutOff bytes had v)
 
 -- "A request without data has its offset checked only with finish"
 abbrev pub takesOne : Request → Option ChecksummedData → ℕ → ℕ → Server → Server

@@ -4,8 +4,6 @@ use Rattle.rules.specs.Limits.{maxWaiters}
 use Rattle.rules.specs.Message.{Bytes, Request, Response, Break}
 use Rattle.rules.specs.Spec.{AppendObjectSpec}
 
--- ---- what the crate's structs hold
-
 -- stored bytes that the server may not have persisted, with their offset and sum
 pub record ReplayChunk : Type 0 where
   pub writeOffset : ℤ
@@ -194,8 +192,6 @@ shortOut out s = ltb out (s .limit)
 
 unfoldable pub complete : Session → Bool  -- finalise was sent and no waiter is left
 complete s = s .worker .finalized && isNil (waiters s)
-
--- ---- refusals and ends
 
 abbrev pub Rows : Type 0  -- a test and its number in document 01's table
 Rows = List (Bool × ℕ)

@@ -38,8 +38,7 @@ handleOf = elim [ writeForm w t ↦ none | appendForm a ↦ a .writeHandle ]
 abbrev pub refreshed : Option Bytes → Option Bytes → Option Bytes  -- the new one where it is given
 refreshed new old = elim new [ none ↦ old | some b ↦ some b ]
 
--- the Append form that a Write form turns into
-abbrev pub appended : WriteObjectSpec → Generation → Option Bytes → Option Bytes → AppendObjectSpec
+abbrev pub appended : WriteObjectSpec → Generation → Option Bytes → Option Bytes → AppendObjectSpec  -- the Append form that a Write form turns into
 appended w g handle token = record {
   bucket = w .bucket;
   object = w .object;
@@ -50,14 +49,12 @@ appended w g handle token = record {
   ifMetagenerationNotMatch = w .ifMetagenerationNotMatch;
 }
 
--- generation, handle and token set anew
-abbrev pub renewed : Generation → Option Bytes → Option Bytes → AppendObjectSpec → AppendObjectSpec
+abbrev pub renewed : Generation → Option Bytes → Option Bytes → AppendObjectSpec → AppendObjectSpec  -- generation, handle and token set anew
 renewed g handle token a =
     let w : WriteObjectSpec = record { bucket = a .bucket; object = a .object; ifMetagenerationMatch = a .ifMetagenerationMatch; ifMetagenerationNotMatch = a .ifMetagenerationNotMatch } in
     appended w g handle token
 
--- handle_response: a resource's generation and a given handle are taken over
-abbrev pub noted : Response → AppendObjectSpec → AppendObjectSpec
+abbrev pub noted : Response → AppendObjectSpec → AppendObjectSpec  -- handle_response: a resource's generation and a given handle are taken over
 noted m a = renewed (Option·getD (generationOf (m .writeStatus)) (a .generation)) (refreshed (m .writeHandle) (a .writeHandle)) (a .routingToken) a
 
 unfoldable pub handleResponse : Response → AppendObjectSpecState → AppendObjectSpec  -- after a response the form is Append

@@ -6,8 +6,7 @@ use Rattle.rules.specs.Respond.{responds, shakes}
 use Rattle.rules.specs.Reconnect.{breaks, judges, fails}
 use Rattle.rules.specs.Replay.{hands, unsent}
 
--- "An append of nothing is always accepted, even after the end, takes 0 and changes nothing."
-unfoldable pub step : Call → Session → Result
+unfoldable pub step : Call → Session → Result  -- "An append of nothing is always accepted, even after the end, takes 0 and changes nothing."
 step (append [] out) s = answers (took 0 none) s
 step (append (x ∷ d) out) s = appends (x ∷ d) out s
 step (flush out) s = asks flushing out s

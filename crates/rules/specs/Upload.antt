@@ -48,8 +48,7 @@ holds b s = going (s .phase) nothing (s .made) (s .writeOffset) (s .runningCrc32
 abbrev pub fillsChunk : Bytes → Session → Bool  -- "Held bytes reaching C are cut as one chunk"
 fillsChunk d s = leb (s .limit) (length (holding d s))
 
--- of an append of at least a byte: "an append that cuts nothing needs no phase but not ended"
-abbrev pub appendRows : Bytes → ℕ → Session → Rows
+abbrev pub appendRows : Bytes → ℕ → Session → Rows  -- of an append of at least a byte: "an append that cuts nothing needs no phase but not ended"
 appendRows d out s =
     let cuts = fillsChunk d s in
     checks ((isEnded (s .phase), 7) ∷ (closed s, 12) ∷ (cuts && not (isLive (s .phase)), 6) ∷ (cuts && shortOut out s, 11)

@@ -22,8 +22,7 @@ sending false (some r) l = loses l
 abbrev pub onAnswer : Brings → Bool → Answer → Server → Server  -- what an answer does to the connection
 onAnswer b sent a v =
     cond (b .handshake) (cond (accepted a) (connects v) v)
-    (cond (b .failure) (cond (accepted a) (onLink loses v) v)
-    (onLink (sending sent (requestIn a)) v))
+    (cond (b .failure) (cond (accepted a) (onLink loses v) v) (onLink (sending sent (requestIn a)) v))
 
 abbrev pub after : Call → Bool → World → Result → World  -- the world after the session gave r to the call c
 after c sent w r = record { session = r .session; server = onAnswer (brings c) sent (r .answer) (w .server); notes = note c (r .answer) (w .notes) }
