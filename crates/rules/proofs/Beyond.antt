@@ -28,7 +28,7 @@ chunk-in-all W r d s =
 right-request : {from : ℕ} {w : World} (i : Inv from w) (r : Request) → Right (i .K) (w .session .worker .finalized) r → RightRequest (w .notes .all) r
 right-request {w} i r h = record {
   chunk = λ d e. chunk-in-all (w .notes .all) r d
-      (subst (λ (x : Bytes). Slice x (r .writeOffset) (d .content) (d .crc32c)) (sym (i .buffer .all-is)) (slice-grow (w .session .held) (h .chunk d e)));
+      (subst (λ (x : Bytes). Slice x (r .writeOffset) (d .content) (d .crc32c)) (sym (i .buffer .all-is)) (slice-grow (w .session .writer .held) (h .chunk d e)));
   finish = λ e. subst (λ (x : Bytes). RightFinish x r) (sym (all-chunked i ((h .finish e) .0))) ((h .finish e) .1);
 }
 

@@ -54,7 +54,7 @@ module _ (capacity limit : ℕ) where
     small : length held < limit
 
   abbrev Fit : Session → Type 0
-  Fit s = Fits (s .limit) (s .worker .replayBuffer .capacity) (chunks s) (s .held)
+  Fit s = Fits (s .limit) (s .worker .replayBuffer .capacity) (chunks s) (s .writer .held)
 
   record Fitting (r : Result) : Type 0 where
     fits : Fit (r .session)
@@ -72,8 +72,8 @@ module _ (capacity limit : ℕ) where
   unfolding appends holds
   appends-fits d out s h =
       let e : s .limit ≡ limit = h .limit-is in
-      let m : length (s .held) < limit = h .small in
-      let l : length (holding d s) ≤ limit = omega (arith, length-append (s .held) (take (room d s) d), length-take (room d s) d) in
+      let m : length (s .writer .held) < limit = h .small in
+      let l : length (holding d s) ≤ limit = omega (arith, length-append (s .writer .held) (take (room d s) d), length-take (room d s) d) in
       unless-ind Fitting s _ _ (λ n. record { fits = h })
       (λ t. choose-ind Fitting _ _ _ (λ f. record { fits = cut-fits (holding d s) s h (and-no f (t .1 .1 .1 .1 .0)) l })
       (λ f. record {
@@ -88,9 +88,9 @@ module _ (capacity limit : ℕ) where
   asks-fits : (k : PendingKind) (out : ℕ) (s : Session) → Fit s → Fitting (asks k out s)
   unfolding asks
   asks-fits k out s h =
-      let m : length (s .held) < limit = h .small in
+      let m : length (s .writer .held) < limit = h .small in
       unless-ind Fitting s _ _ (λ n. record { fits = h })
-      (λ t. choose-ind Fitting _ _ _ (λ f. record { fits = cut-fits (s .held) s h (t .1 .1 .1 .1 .0) (omega arith) }) (λ f. record { fits = h }))
+      (λ t. choose-ind Fitting _ _ _ (λ f. record { fits = cut-fits (s .writer .held) s h (t .1 .1 .1 .1 .0) (omega arith) }) (λ f. record { fits = h }))
 
   ending-fits : (c : Cause) (k : ℕ) (s : Session) → Fit s → Fitting (ending c k s)
   unfolding ending

@@ -107,14 +107,14 @@ pub judge-keeps : {from : ℕ} (v : ℕ) (could : Bool) (w : World) → Inv from
 unfolding step judges
 judge-keeps {from} v could w i =
     let k : Other from could w (judges v (w .session)) = unless-ind (Other from could w) (w .session) _ _ (λ n. record { inv = i })
-    (λ h. ruled-keeps _ could w _ (ruling-steady (onRedirect (w .session .phase)) (w .session .worker .connector .redirectsFollowed) v) (h .0) (not-at 2 4 (w .session .phase) refl (h .1 .0)) i) in
+    (λ h. ruled-keeps _ could w _ (ruling-steady (onRedirect (w .session .phase)) (w .session .worker .connector .counters .redirectsFollowed) v) (h .0) (not-at 2 4 (w .session .phase) refl (h .1 .0)) i) in
     k .inv
 
 pub failed-keeps : {from : ℕ} (b : Break) (v : ℕ) (could : Bool) (w : World) → Inv from w → Inv from (calls (failedAttempt b v) could w)
 unfolding step fails
 failed-keeps {from} b v could w i =
     let k : Other from could w (fails b v (w .session)) = unless-ind (Other from could w) (w .session) _ _ (λ n. record { inv = i })
-    (λ h. ruled-keeps _ could w _ (ruling-steady (isRedirect b) ((rerouted (redirectIn b) (w .session .worker .connector)) .redirectsFollowed) v) (h .0) (not-at 3 4 (w .session .phase) refl (h .1 .0)) i) in
+    (λ h. ruled-keeps _ could w _ (ruling-steady (isRedirect b) ((rerouted (redirectIn b) (w .session .worker .connector)) .counters .redirectsFollowed) v) (h .0) (not-at 3 4 (w .session .phase) refl (h .1 .0)) i) in
     k .inv
 
 -- ---- a break

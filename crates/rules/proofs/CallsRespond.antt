@@ -67,7 +67,7 @@ module _ {from : ℕ} (w : World) (i : Inv from w) (n : ℕ) (f : Bool) (up : i 
   since-is : from ≤ n
   since-is = omega (arith, i .since)
 
-  wait-is : WaitOK (i .K) n (w .session .held) ((absorbs (pos n) f (w .session .worker)) .pendingRequests) (w .session .worker .finalized) (isEnded (w .session .phase))
+  wait-is : WaitOK (i .K) n (w .session .writer .held) ((absorbs (pos n) f (w .session .worker)) .pendingRequests) (w .session .worker .finalized) (isEnded (w .session .phase))
       (w .notes .marks) (w .notes .completed + satisfied (pos n) f (waiters (w .session))) (w .server .stored .finalised)
   wait-is = wait-serves n f up true-final (i .wait)
 
@@ -138,7 +138,7 @@ module _ {from : ℕ} (kept rest : List Response) (could keep : Bool) (w : World
   -- the last step of a response: a bare flush or not
   last-keeps : (o : Option ℤ) (k : ℕ) (s : Session) (K : Bytes) (p : ℕ) → from ≤ p
       → BufferOK K p (stockOf s) (record { limit = w .notes .limit; all = w .notes .all; loose = w .notes .loose; largest = largestOf (w .notes .largest) o })
-      → WaitOK K p (s .held) (waiters s) (s .worker .finalized) (isEnded (s .phase)) (w .notes .marks) (w .notes .completed + k) (w .server .stored .finalised)
+      → WaitOK K p (s .writer .held) (waiters s) (s .worker .finalized) (isEnded (s .phase)) (w .notes .marks) (w .notes .completed + k) (w .server .stored .finalised)
       → ServerOK K p (s .worker .finalized) (onLink (setMessages (cond (keep && false) kept rest)) (w .server))
       → FlowOK K p (s .phase) (chunks s) (onLink (setMessages (cond (keep && false) kept rest)) (w .server))
       → HandedOK K (s .worker .finalized) (w .notes .handed)

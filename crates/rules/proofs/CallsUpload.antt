@@ -87,10 +87,10 @@ asks-keeps {from} k out could w i =
     unless-ind (AskedFor from k could w) (w .session) _ _ (λ n. record { inv = i })
     (λ h. choose-ind (AskedFor from k could w) _ _ _
     (λ e. record {
-      inv = cut-keeps could w i (w .session .held) (w .notes .all) 0 (not-sent (w .session) (h .1 .0)) (h .0) (not-at 1 4 (w .session .phase) refl (h .1 .1 .0))
+      inv = cut-keeps could w i (w .session .writer .held) (w .notes .all) 0 (not-sent (w .session) (h .1 .0)) (h .0) (not-at 1 4 (w .session .phase) refl (h .1 .1 .0))
           (i .buffer .all-is) refl;
     })
-    (λ e. waited (h .0) (not-at 1 4 (w .session .phase) refl (h .1 .1 .0)) (nil-of (w .session .held) e)))
+    (λ e. waited (h .0) (not-at 1 4 (w .session .phase) refl (h .1 .1 .0)) (nil-of (w .session .writer .held) e)))
   where
     s : Session
     s = w .session
@@ -104,7 +104,7 @@ asks-keeps {from} k out could w i =
     sent : s .worker .finalized ≡ true → (s .worker .finalized || isFinalizing k) ≡ true
     sent = or-left (s .worker .finalized) (isFinalizing k)
 
-    waited : isEnded (s .phase) ≡ false → isReplay (s .phase) ≡ false → s .held ≡ [] → AskedFor from k could w (answers (waits (requestFor k s) (suc (s .made))) (awaits k s))
+    waited : isEnded (s .phase) ≡ false → isReplay (s .phase) ≡ false → s .writer .held ≡ [] → AskedFor from k could w (answers (waits (requestFor k s) (suc (s .writer .made))) (awaits k s))
     waited e o n =
         let l : length (w .notes .all) ≡ length (i .K) = ap length (i .buffer .all-is ∙ ap (λ (y : Bytes). i .K ++ y) n ∙ append-nil (i .K)) in
         record {
@@ -113,7 +113,7 @@ asks-keeps {from} k out could w i =
             p = i .p;
             since = i .since;
             steady = i .steady;
-            buffer = buffer-holds (s .held) (w .notes .all) 0 (i .buffer .all-is) (sym (ap length n)) (i .buffer .small) (i .buffer);
+            buffer = buffer-holds (s .writer .held) (w .notes .all) 0 (i .buffer .all-is) (sym (ap length n)) (i .buffer .small) (i .buffer);
             wait = wait-new (waiterOf k s) m e n (request-at k s ∙ i .buffer .offset-is ∙ ap pos (sym l)) refl l a (wait-zero (i .wait));
             replays = replay-off o;
             server = server-sends could (some (requestFor k s)) (a .right) (server-sent sent (i .server));
@@ -180,17 +180,17 @@ appends-keeps {from} d out could w i =
     same = ap (λ (m : ℕ). take (min (length d) (m - w .notes .loose)) d) (b .limit-is) ∙ ap (λ (m : ℕ). take (min (length d) (s .limit - m)) d) (b .loose-is)
 
     len : w .notes .loose + length (taken d (w .notes)) ≡ length x
-    len = ap (λ (m : ℕ). m + length (taken d (w .notes))) (b .loose-is) ∙ ap (λ (r : Bytes). length (s .held) + length r) same
-        ∙ sym (length-append (s .held) (take (room d s) d))
+    len = ap (λ (m : ℕ). m + length (taken d (w .notes))) (b .loose-is) ∙ ap (λ (r : Bytes). length (s .writer .held) + length r) same
+        ∙ sym (length-append (s .writer .held) (take (room d s) d))
 
     all : w .notes .all ++ taken d (w .notes) ≡ i .K ++ x
-    all = ap (λ (r : Bytes). r ++ taken d (w .notes)) (b .all-is) ∙ ap (λ (r : Bytes). i .K ++ s .held ++ r) same ∙ append-assoc (i .K) (s .held) (take (room d s) d)
+    all = ap (λ (r : Bytes). r ++ taken d (w .notes)) (b .all-is) ∙ ap (λ (r : Bytes). i .K ++ s .writer .held ++ r) same ∙ append-assoc (i .K) (s .writer .held) (take (room d s) d)
 
 -- an append of nothing, which may come after the end
 empty-keeps : {from : ℕ} (could : Bool) (w : World) → Inv from w → Appended from [] could w (answers (took 0 none) (w .session))
 empty-keeps could w i =
     let e : taken [] (w .notes) ≡ [] = take-nil (min 0 (w .notes .limit - w .notes .loose)) in
-    let l : w .notes .loose + length (taken [] (w .notes)) ≡ length (w .session .held)
+    let l : w .notes .loose + length (taken [] (w .notes)) ≡ length (w .session .writer .held)
     = ap (λ (r : Bytes). w .notes .loose + length r) e ∙ add-zero (w .notes .loose) ∙ i .buffer .loose-is in
     record {
       inv = record {
@@ -201,8 +201,8 @@ empty-keeps could w i =
         wait = wait-zero (i .wait);
         server = i .server;
         flow = i .flow;
-        buffer = buffer-holds (w .session .held) _ _ (ap (λ (r : Bytes). w .notes .all ++ r) e ∙ append-nil (w .notes .all) ∙ i .buffer .all-is)
-            (after-part (w .notes .limit) (w .session .limit) _ _ (i .buffer .limit-is) l (lt-leb (w .session .limit) (length (w .session .held)) (i .buffer .small))) (i .buffer .small) (i .buffer);
+        buffer = buffer-holds (w .session .writer .held) _ _ (ap (λ (r : Bytes). w .notes .all ++ r) e ∙ append-nil (w .notes .all) ∙ i .buffer .all-is)
+            (after-part (w .notes .limit) (w .session .limit) _ _ (i .buffer .limit-is) l (lt-leb (w .session .limit) (length (w .session .writer .held)) (i .buffer .small))) (i .buffer .small) (i .buffer);
         replays = replay-on (i .replays);
         handed = handed-none (i .handed);
       };

@@ -26,12 +26,12 @@ completed-mark {w} i n m l e =
     all-get (Completed (i .p) (w .server .stored .finalised)) (i .wait .gone) n m (i .wait .gone-ok)
     (sym (get-front (i .wait .gone) (i .wait .todo ++ i .wait .lost) n k) ∙ ap (λ (x : List Mark). getElem? x n) (sym (i .wait .marks-is)) ∙ e)
 
-object-first : {from : ℕ} {w : World} (i : Inv from w) → w .server .stored .object ++ (w .server .stored .tail ++ i .server .rest ++ w .session .held) ≡ w .notes .all
+object-first : {from : ℕ} {w : World} (i : Inv from w) → w .server .stored .object ++ (w .server .stored .tail ++ i .server .rest ++ w .session .writer .held) ≡ w .notes .all
 object-first {w} i =
-    ap (λ (r : Bytes). w .server .stored .object ++ r) (append-assoc (w .server .stored .tail) (i .server .rest) (w .session .held))
-    ∙ sym (append-assoc (w .server .stored .object) (w .server .stored .tail) (i .server .rest ++ w .session .held))
-    ∙ sym (append-assoc (w .server .stored .object ++ w .server .stored .tail) (i .server .rest) (w .session .held))
-    ∙ ap (λ (r : Bytes). r ++ w .session .held) (i .server .begins) ∙ sym (i .buffer .all-is)
+    ap (λ (r : Bytes). w .server .stored .object ++ r) (append-assoc (w .server .stored .tail) (i .server .rest) (w .session .writer .held))
+    ∙ sym (append-assoc (w .server .stored .object) (w .server .stored .tail) (i .server .rest ++ w .session .writer .held))
+    ∙ sym (append-assoc (w .server .stored .object ++ w .server .stored .tail) (i .server .rest) (w .session .writer .held))
+    ∙ ap (λ (r : Bytes). r ++ w .session .writer .held) (i .server .begins) ∙ sym (i .buffer .all-is)
 
 -- once finalise was sent, W is the chunked bytes
 pub all-chunked : {from : ℕ} {w : World} (i : Inv from w) → w .session .worker .finalized ≡ true → w .notes .all ≡ i .K
@@ -39,7 +39,7 @@ all-chunked i e = i .buffer .all-is ∙ ap (λ (r : Bytes). i .K ++ r) (i .wait 
 
 pub holds : {from : ℕ} (w : World) → Inv from w → Holds w
 holds w i = record {
-  begins = (w .server .stored .tail ++ i .server .rest ++ w .session .held, object-first i);
+  begins = (w .server .stored .tail ++ i .server .rest ++ w .session .writer .held, object-first i);
   counted = counted;
   waited = waited;
   kept = kept;
@@ -63,14 +63,14 @@ holds w i = record {
       size = i .p;
       largest = b .largest-is;
       below = server-below (i .server);
-      stored-held = ap (λ (r : Bytes). r ++ w .session .held) (b .bytes) ∙ sym (drop-append-le (i .p) (i .K) (w .session .held) (b .within)) ∙ ap (drop (i .p)) (sym (b .all-is));
+      stored-held = ap (λ (r : Bytes). r ++ w .session .writer .held) (b .bytes) ∙ sym (drop-append-le (i .p) (i .K) (w .session .writer .held) (b .within)) ∙ ap (drop (i .p)) (sym (b .all-is));
     }
 
     chunked : take (length (w .notes .all) - w .notes .loose) (w .notes .all) ≡ i .K
     chunked =
         let l : length (i .K) ≡ length (w .notes .all) - w .notes .loose
-        = omega (arith, b .loose-is, ap length (b .all-is), length-append (i .K) (w .session .held)) in
-        ap (take (length (w .notes .all) - w .notes .loose)) (b .all-is) ∙ take-at (i .K) (w .session .held) _ l
+        = omega (arith, b .loose-is, ap length (b .all-is), length-append (i .K) (w .session .writer .held)) in
+        ap (take (length (w .notes .all) - w .notes .loose)) (b .all-is) ∙ take-at (i .K) (w .session .writer .held) _ l
 
     replayed : w .notes .atDone ≡ true → Replayed w
     replayed d = record { size = i .p; greeted = (i .replays .end d) .0; carried = (i .replays .end d) .1 ∙ ap (drop (i .p)) (sym chunked) }

@@ -37,9 +37,9 @@ pub record Tally : Type 0 where
 abbrev pub stockOf : Session → Stock
 stockOf s = record {
   limit = s .limit;
-  writeOffset = s .writeOffset;
-  runningCrc32c = s .runningCrc32c;
-  held = s .held;
+  writeOffset = s .writer .writeOffset;
+  runningCrc32c = s .writer .runningCrc32c;
+  held = s .writer .held;
   persistedSize = s .worker .persistedSize;
   queue = s .worker .replayBuffer .queue;
 }
@@ -197,7 +197,7 @@ pub record Inv (from : ℕ) (w : World) : Type 0 where
   pub p : ℕ
   pub since : from ≤ p
   pub buffer : BufferOK K p (stockOf (w .session)) (tallyOf (w .notes))
-  pub wait : WaitOK K p (w .session .held) (waiters (w .session)) (w .session .worker .finalized) (isEnded (w .session .phase)) (w .notes .marks) (w .notes .completed) (w .server .stored .finalised)
+  pub wait : WaitOK K p (w .session .writer .held) (waiters (w .session)) (w .session .worker .finalized) (isEnded (w .session .phase)) (w .notes .marks) (w .notes .completed) (w .server .stored .finalised)
   pub replays : ReplayOK K p (w .session .phase) (chunks (w .session)) (w .notes .greeted) (w .notes .carried) (w .notes .atDone)
   pub server : ServerOK K p (w .session .worker .finalized) (w .server)
   pub flow : FlowOK K p (w .session .phase) (chunks (w .session)) (w .server)

@@ -133,9 +133,9 @@ push-repeated limit (x ∷ held) d l h =
 -- ---- an accepted append of the rules is one such append, and answers how many bytes it took
 
 pub record Once (b : Bytes) (s : Session) (r : Result) : Type 0 where
-  pub chunks-are : map ReplayChunk.bytes (chunks (r .session)) ≡ map ReplayChunk.bytes (chunks s) ++ (once (s .limit) (s .held) b) .0
-  pub held-is : r .session .held ≡ (once (s .limit) (s .held) b) .1
-  pub took-is : (q : Option Request) × (r .answer ≡ took (takenBy (s .limit) (s .held) b) q)
+  pub chunks-are : map ReplayChunk.bytes (chunks (r .session)) ≡ map ReplayChunk.bytes (chunks s) ++ (once (s .limit) (s .writer .held) b) .0
+  pub held-is : r .session .writer .held ≡ (once (s .limit) (s .writer .held) b) .1
+  pub took-is : (q : Option Request) × (r .answer ≡ took (takenBy (s .limit) (s .writer .held) b) q)
 
 record OnceIf (b : Bytes) (s : Session) (r : Result) : Type 0 where
   once-if : accepted (r .answer) ≡ true → Once b s r

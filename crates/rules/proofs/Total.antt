@@ -15,7 +15,7 @@ unfolding stored
 totals {from} w i = record {
   size = i .p;
   persisted = i .buffer .p-is;
-  total = omega (arith, i .since, i .buffer .within, ap length (i .buffer .all-is), length-append (i .K) (w .session .held), ap length (i .buffer .bytes), length-drop (i .p) (i .K));
+  total = omega (arith, i .since, i .buffer .within, ap length (i .buffer .all-is), length-append (i .K) (w .session .writer .held), ap length (i .buffer .bytes), length-drop (i .p) (i .K));
 }
 
 pub byte-total : ByteTotal

@@ -145,7 +145,7 @@ wait-new {K} {qs} {sent} {marks} q m o n e k l a h =
     }
 
 -- the waiter that a flush or finalise makes
-pub asked-new : (k : PendingKind) (sent : Bool) (s : Session) (K : Bytes) → s .writeOffset ≡ pos (length K) → ((c : ℕ) → s .runningCrc32c ≡ some c → c ≡ crcOf K)
+pub asked-new : (k : PendingKind) (sent : Bool) (s : Session) (K : Bytes) → s .writer .writeOffset ≡ pos (length K) → ((c : ℕ) → s .writer .runningCrc32c ≡ some c → c ≡ crcOf K)
     → Asked K (sent || isFinalizing k) (waiterOf k s)
 asked-new flushing sent s K e f = record { right = record { chunk = λ d g. absurd (Option·none-ne-some d g); finish = λ g. never (sym g) }; dataless = refl }
 asked-new finalizing sent s K e f = record {
@@ -153,7 +153,7 @@ asked-new finalizing sent s K e f = record {
   dataless = refl;
 }
 
-pub request-at : (k : PendingKind) (s : Session) → (requestFor k s) .writeOffset ≡ s .writeOffset
+pub request-at : (k : PendingKind) (s : Session) → (requestFor k s) .writeOffset ≡ s .writer .writeOffset
 request-at flushing s = refl
 request-at finalizing s = refl
 

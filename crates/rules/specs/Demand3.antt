@@ -22,7 +22,7 @@ pub record Persisted (m : Mark) (w : World) : Type 0 where
 pub record Kept (w : World) : Type 0 where
   pub size : ℕ
   pub largest : w .notes .largest ≡ pos size
-  pub stored-held : bytesOf (chunks (w .session)) ++ w .session .held ≡ drop size (w .notes .all)
+  pub stored-held : bytesOf (chunks (w .session)) ++ w .session .writer .held ≡ drop size (w .notes .all)
   pub below : size ≤ length (w .server .stored .object)
 
 -- "At a *done*, the chunk data of the requests handed out since the last accepted handshake, joined, is W as it then is, from that handshake's

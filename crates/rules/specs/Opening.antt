@@ -69,12 +69,13 @@ openSession o = record {
   slots = o .slots;
   phase = live;
   sent = nothing;
-  made = 0;
-  writeOffset = larger (openSize o) (pos (payloadLength (o .payload)));
-  runningCrc32c = openSum (o .payload) (openSize o) (o .checksum);
-  held = [];
+  writer = let p = openSize o in
+      record { made = 0; writeOffset = larger p (pos (payloadLength (o .payload))); runningCrc32c = openSum (o .payload) p (o .checksum); held = [] };
   worker = record {
-    connector = record { spec = handleResponse (o .response) (o .spec); attemptCount = 0; redirectsFollowed = 0; lastPersistedSize = o .lastPersistedSize };
+    connector = record {
+      spec = handleResponse (o .response) (o .spec);
+      counters = record { attemptCount = 0; redirectsFollowed = 0; lastPersistedSize = o .lastPersistedSize };
+    };
     replayBuffer = record { queue = openChunks (o .payload) (openSize o); capacity = capacityOf o };
     pendingRequests = [];
     persistedSize = openSize o;

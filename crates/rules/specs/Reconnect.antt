@@ -14,7 +14,7 @@ rerouted o c = elim o [ none ↦ c | some r ↦ setSpec (redirected r (c .spec))
 
 abbrev pub attempted : Bool → Connector → Connector  -- "Another break adds 1 to the attempt number, which stays at 2^32 − 1"
 attempted true c = c
-attempted false c = setCounters (min (suc (c .attemptCount)) (2 ^ 32 - 1)) (c .redirectsFollowed) (c .lastPersistedSize) c
+attempted false c = setCounters (min (suc (c .counters .attemptCount)) (2 ^ 32 - 1)) (c .counters .redirectsFollowed) (c .counters .lastPersistedSize) c
 
 -- "Finalise sent and no waiter: *finished*." Closing: "an end of stream finishes, dropping waiters; another break ends with a stream error
 -- unless finished." Otherwise, live: "the mark is cleared; a status with redirect detail replaces ...; P above the last size replaces it and
@@ -25,7 +25,7 @@ breaks b s =
     (choose (complete s) (ending finished 0 s)
     (choose (isClosing (s .phase)) (ending (cond (isEnd b) finished streamError) 0 s)
     (let c = attempted (isRedirect b) (progress (some (s .worker .persistedSize)) (rerouted (redirectIn b) (s .worker .connector))) in
-    answers (attempt (cond (isRedirect b) 0 (c .attemptCount)))
+    answers (attempt (cond (isRedirect b) 0 (c .counters .attemptCount)))
     (setPhase (verdict (isRedirect b)) nothing (setWorker (setConnector c (setMark false (s .worker))) s)))))
 
 -- ---- verdicts: 1 continue, 2 permanent, 3 exhausted, 4 host gives up
@@ -39,7 +39,7 @@ ruling redirect followed v =
 
 abbrev pub counted : Bool → Connector → Connector
 counted false c = c
-counted true c = setCounters (c .attemptCount) (suc (c .redirectsFollowed)) (c .lastPersistedSize) c
+counted true c = setCounters (c .counters .attemptCount) (suc (c .counters .redirectsFollowed)) (c .counters .lastPersistedSize) c
 
 unfoldable pub ruled : Option Cause → Session → Result  -- "Continue leads to connecting."
 ruled none s = answers ok (setPhase connecting nothing s)
@@ -56,7 +56,7 @@ judges v s =
     unless s (checks ((isEnded (s .phase), 7) ∷ (not (isVerdict (s .phase)), 6) ∷ (noVerdict v, 13) ∷ []))
     (let c = s .worker .connector in
     let r = onRedirect (s .phase) in
-    ruled (ruling r (c .redirectsFollowed) v) (setWorker (setConnector (counted r c) (s .worker)) s))
+    ruled (ruling r (c .counters .redirectsFollowed) v) (setWorker (setConnector (counted r c) (s .worker)) s))
 
 -- "A failed attempt brings its error and verdict under the same redirect rule, without the attempt number."
 unfoldable pub fails : Break → ℕ → Session → Result
@@ -64,4 +64,4 @@ fails b v s =
     unless s (checks ((isEnded (s .phase), 7) ∷ (not (isConnecting (s .phase)), 6) ∷ (noVerdict v, 13) ∷ (overlong (redirectIn b), 4) ∷ []))
     (let c = rerouted (redirectIn b) (s .worker .connector) in
     let r = isRedirect b in
-    ruled (ruling r (c .redirectsFollowed) v) (setWorker (setConnector (counted r c) (s .worker)) s))
+    ruled (ruling r (c .counters .redirectsFollowed) v) (setWorker (setConnector (counted r c) (s .worker)) s))

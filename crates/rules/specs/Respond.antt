@@ -67,7 +67,7 @@ responds m s =
 
 abbrev pub progress : Option ℤ → Connector → Connector  -- "P above the last size replaces it and zeroes both counters", as does a handshake's size
 progress none c = c
-progress (some n) c = cond (ltZ (c .lastPersistedSize) n) (setCounters 0 0 n c) c
+progress (some n) c = cond (ltZ (c .counters .lastPersistedSize) n) (setCounters 0 0 n c) c
 
 unfoldable pub toReplay : ℕ → Session → Result
 toReplay k s = answers (completes k none) (setPhase (replay 0) nothing s)

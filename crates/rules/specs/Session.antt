@@ -14,11 +14,14 @@ pub record ReplayBuffer : Type 0 where
   pub queue : List ReplayChunk
   pub capacity : ℕ
 
-pub record Connector : Type 0 where
-  pub spec : AppendObjectSpec
+pub record Counters : Type 0 where
   pub attemptCount : ℕ
   pub redirectsFollowed : ℕ
   pub lastPersistedSize : ℤ
+
+pub record Connector : Type 0 where
+  pub spec : AppendObjectSpec
+  pub counters : Counters
 
 pub data PendingKind : Type 0 where
   flushing finalizing : PendingKind
@@ -51,16 +54,19 @@ pub data Phase : Type 0 where
 pub data Sent : Type 0 where
   nothing aRequest bareFlush : Sent
 
--- the crate's transport with its worker
+-- the crate's transport
+pub record Writer : Type 0 where
+  pub made : ℕ  -- waiters made so far
+  pub writeOffset : ℤ
+  pub runningCrc32c : Option ℕ  -- unknown: none
+  pub held : Bytes  -- what the coalescing buffer has
+
 pub record Session : Type 0 where
   pub limit : ℕ  -- C
   pub slots : ℕ  -- of the chunk table
   pub phase : Phase
   pub sent : Sent
-  pub made : ℕ  -- waiters made so far
-  pub writeOffset : ℤ
-  pub runningCrc32c : Option ℕ  -- unknown: none
-  pub held : Bytes  -- what the coalescing buffer has
+  pub writer : Writer
   pub worker : Worker
 
 -- ---- calls and answers
@@ -115,20 +121,20 @@ abbrev pub setPending : List PendingRequest → Bool → Worker → Worker
 setPending ps f w = working (w .connector) (w .replayBuffer .queue) ps (w .persistedSize) f (w .selfFlushOutstanding) w
 
 abbrev pub setCounters : ℕ → ℕ → ℤ → Connector → Connector
-setCounters attempts redirects size c = record { spec = c .spec; attemptCount = attempts; redirectsFollowed = redirects; lastPersistedSize = size }
+setCounters attempts redirects size c =
+    record { spec = c .spec; counters = record { attemptCount = attempts; redirectsFollowed = redirects; lastPersistedSize = size } }
 
 abbrev pub setSpec : AppendObjectSpec → Connector → Connector
-setSpec a c = record { spec = a; attemptCount = c .attemptCount; redirectsFollowed = c .redirectsFollowed; lastPersistedSize = c .lastPersistedSize }
+setSpec a c = record { spec = a; counters = c .counters }
 
-abbrev pub going : Phase → Sent → ℕ → ℤ → Option ℕ → Bytes → Worker → Session → Session
-going ph n made at sum held w s =
-    record { limit = s .limit; slots = s .slots; phase = ph; sent = n; made = made; writeOffset = at; runningCrc32c = sum; held = held; worker = w }
+abbrev pub going : Phase → Sent → Writer → Worker → Session → Session
+going ph n r w s = record { limit = s .limit; slots = s .slots; phase = ph; sent = n; writer = r; worker = w }
 
 abbrev pub setWorker : Worker → Session → Session
-setWorker w s = going (s .phase) (s .sent) (s .made) (s .writeOffset) (s .runningCrc32c) (s .held) w s
+setWorker w s = going (s .phase) (s .sent) (s .writer) w s
 
 abbrev pub setPhase : Phase → Sent → Session → Session
-setPhase ph n s = going ph n (s .made) (s .writeOffset) (s .runningCrc32c) (s .held) (s .worker) s
+setPhase ph n s = going ph n (s .writer) (s .worker) s
 
 -- ---- tests
 
@@ -182,10 +188,10 @@ unfoldable pub noSlot : Session → Bool  -- "no free chunk slot"
 noSlot s = leb (s .slots) (length (chunks s))
 
 unfoldable pub noWaiter : Session → Bool  -- "16 waiters wait, or 2^64 − 1 were made"
-noWaiter s = leb maxWaiters (length (waiters s)) || leb (2 ^ 64 - 1) (s .made)
+noWaiter s = leb maxWaiters (length (waiters s)) || leb (2 ^ 64 - 1) (s .writer .made)
 
 unfoldable pub pastEnd : Bytes → Session → Bool  -- "a chunk would end past 2^63 − 1"
-pastEnd b s = ltZ (pos (2 ^ 63 - 1)) (s .writeOffset +ℤ pos (length b))
+pastEnd b s = ltZ (pos (2 ^ 63 - 1)) (s .writer .writeOffset +ℤ pos (length b))
 
 unfoldable pub shortOut : ℕ → Session → Bool  -- "out buffer shorter than C"
 shortOut out s = ltb out (s .limit)

@@ -21,7 +21,7 @@ firstTaken (some b) object = 0
 pub record Total (from : ℕ) (w : World) : Type 0 where
   pub size : ℕ
   pub persisted : w .session .worker .persistedSize ≡ pos size
-  pub total : length (w .notes .all) - from ≡ (min size (length (w .notes .all)) - from) + stored (w .session) + length (w .session .held)
+  pub total : length (w .notes .all) - from ≡ (min size (length (w .notes .all)) - from) + stored (w .session) + length (w .session .writer .held)
 
 abbrev pub ByteTotal : Type 0
 ByteTotal =

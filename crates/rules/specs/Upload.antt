@@ -5,7 +5,7 @@ use Rattle.rules.specs.Message.{Bytes, Request}
 use Rattle.rules.specs.Session.{ReplayChunk, PendingKind, flushing, finalizing, PendingRequest, Worker, closing, nothing, aRequest, Session, took, sends, waits, ok, Result, answers, working, setMark, setPending, going, setWorker, setPhase, isNil, isLive, isEnded, waiters, full, watermark, closed, noSlot, noWaiter, pastEnd, shortOut, choose, Rows, checks, unless}
 
 abbrev pub chunkOf : Bytes → Session → ReplayChunk  -- the bytes b as a chunk at the write offset
-chunkOf b s = record { writeOffset = s .writeOffset; bytes = b; crc32c = crcOf b }
+chunkOf b s = record { writeOffset = s .writer .writeOffset; bytes = b; crc32c = crcOf b }
 
 -- "A chunk request has offset, bytes, CRC32C"; under the watermark it "also sets flush and state lookup"
 abbrev pub chunkRequest : ReplayChunk → Bool → Request
@@ -27,7 +27,9 @@ joinedSum sum b = elim sum [ none ↦ none | some c ↦ some (joined c (crcOf b)
 
 abbrev pub stores : Bytes → Session → Session  -- b is cut as one chunk: "a cut moves [the write offset] by the chunk's length"
 stores b s =
-    going (s .phase) aRequest (s .made) (s .writeOffset +ℤ pos (length b)) (joinedSum (s .runningCrc32c) b) [] (pushed (chunkOf b s) (s .worker)) s
+    let at = s .writer .writeOffset +ℤ pos (length b) in
+    going (s .phase) aRequest (record { made = s .writer .made; writeOffset = at; runningCrc32c = joinedSum (s .writer .runningCrc32c) b; held = [] })
+    (pushed (chunkOf b s) (s .worker)) s
 
 -- "The request of a newly cut chunk, counted as stored, then also sets flush and state lookup, and marks an own flush."
 abbrev pub cutRequest : Bytes → Session → Request
@@ -37,13 +39,15 @@ abbrev pub cuts : Bytes → Session → Session
 cuts b s = setWorker (setMark (s .worker .selfFlushOutstanding || watermark (stores b s)) ((stores b s) .worker)) (stores b s)
 
 abbrev pub room : Bytes → Session → ℕ  -- "Append takes the smaller of its length and C − held."
-room d s = min (length d) (s .limit - length (s .held))
+room d s = min (length d) (s .limit - length (s .writer .held))
 
 abbrev pub holding : Bytes → Session → Bytes
-holding d s = s .held ++ take (room d s) d
+holding d s = s .writer .held ++ take (room d s) d
 
 unfoldable pub holds : Bytes → Session → Session
-holds b s = going (s .phase) nothing (s .made) (s .writeOffset) (s .runningCrc32c) b (s .worker) s
+holds b s =
+    let r = s .writer in
+    going (s .phase) nothing (record { made = r .made; writeOffset = r .writeOffset; runningCrc32c = r .runningCrc32c; held = b }) (s .worker) s
 
 abbrev pub fillsChunk : Bytes → Session → Bool  -- "Held bytes reaching C are cut as one chunk"
 fillsChunk d s = leb (s .limit) (length (holding d s))
@@ -70,8 +74,8 @@ abbrev pub finishRequest : ℤ → Option ℕ → Request
 finishRequest at sum = record { writeOffset = at; checksummedData = none; objectChecksum = sum; stateLookup = false; flush = true; finishWrite = true }
 
 abbrev pub requestFor : PendingKind → Session → Request
-requestFor flushing s = flushRequest (s .writeOffset)
-requestFor finalizing s = finishRequest (s .writeOffset) (s .runningCrc32c)
+requestFor flushing s = flushRequest (s .writer .writeOffset)
+requestFor finalizing s = finishRequest (s .writer .writeOffset) (s .writer .runningCrc32c)
 
 abbrev pub isFinalizing : PendingKind → Bool
 isFinalizing = elim [ flushing ↦ false | finalizing ↦ true ]
@@ -81,21 +85,22 @@ waiterOf k s = record { kind = k; request = requestFor k s }
 
 abbrev pub awaits : PendingKind → Session → Session  -- the session with one more waiter
 awaits k s =
-    going (s .phase) aRequest (suc (s .made)) (s .writeOffset) (s .runningCrc32c) (s .held)
+    let r = s .writer in
+    going (s .phase) aRequest (record { made = suc (r .made); writeOffset = r .writeOffset; runningCrc32c = r .runningCrc32c; held = r .held })
     (setPending (waiters s ++ (waiterOf k s ∷ [])) (s .worker .finalized || isFinalizing k) (s .worker)) s
 
 abbrev pub askRows : ℕ → Session → Rows
 askRows out s =
-    let cuts = not (isNil (s .held)) in
+    let cuts = not (isNil (s .writer .held)) in
     checks ((isEnded (s .phase), 7) ∷ (closed s, 12) ∷ (not (isLive (s .phase)), 6) ∷ (cuts && shortOut out s, 11)
-    ∷ (full s, 8) ∷ (cond cuts (noSlot s) (noWaiter s), 9) ∷ (cuts && pastEnd (s .held) s, 10) ∷ [])
+    ∷ (full s, 8) ∷ (cond cuts (noSlot s) (noWaiter s), 9) ∷ (cuts && pastEnd (s .writer .held) s, 10) ∷ [])
 
 -- "Flush, and finalise, with held bytes cut them as one chunk and make no waiter; the call is repeated. With none held they send their
 -- request and make a waiter, numbered 1, 2, ..."
 abbrev pub asked : PendingKind → Session → Result
 asked k s =
-    choose (not (isNil (s .held))) (answers (sends (cutRequest (s .held) s)) (cuts (s .held) s))
-    (answers (waits (requestFor k s) (suc (s .made))) (awaits k s))
+    choose (not (isNil (s .writer .held))) (answers (sends (cutRequest (s .writer .held) s)) (cuts (s .writer .held) s))
+    (answers (waits (requestFor k s) (suc (s .writer .made))) (awaits k s))
 
 unfoldable pub asks : PendingKind → ℕ → Session → Result
 asks k out s = unless s (askRows out s) (asked k s)

@@ -24,7 +24,7 @@ three = two ++ (failedAttempt redirection 3 ∷ [])
 abbrev pub table : List Row
 table =
     -- "P1 held 3, C 4, append 1: one chunk, none held."
-    row 1 (after {A = ℕ × ℕ} (at 0) (append (1 ∷ 2 ∷ 3 ∷ []) 4 ∷ append (4 ∷ []) 4 ∷ []) (λ s. (length (chunks s), length (s .held)))) (some (1, 0))
+    row 1 (after {A = ℕ × ℕ} (at 0) (append (1 ∷ 2 ∷ 3 ∷ []) 4 ∷ append (4 ∷ []) 4 ∷ []) (λ s. (length (chunks s), length (s .writer .held)))) (some (1, 0))
     -- "P2 append 0: 0.", in any session
     ∷ row 2 (step (append [] 0)) (λ s. answers (took 0 none) s)
     -- "P3 size equal to P: accepted."

@@ -169,8 +169,8 @@ redirected between = runs (redirects between) (start payload (openSession payloa
 
 pub record Redirected (w : World) (phase : Phase) (followed : ℕ) : Type 0 where
   pub phase-is : w .session .phase ≡ phase
-  pub followed-are : w .session .worker .connector .redirectsFollowed ≡ followed
-  pub attempts-are : w .session .worker .connector .attemptCount ≡ 0
+  pub followed-are : w .session .worker .connector .counters .redirectsFollowed ≡ followed
+  pub attempts-are : w .session .worker .connector .counters .attemptCount ≡ 0
   pub token-is : w .session .worker .connector .spec .routingToken ≡ some (4 ∷ [])
 
 -- "from the fourth ... the rest is exhausted"
