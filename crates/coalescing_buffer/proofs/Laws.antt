@@ -35,7 +35,7 @@ leb-shift held limit n h =
 -- ---- the rules of an append, in these words
 
 module _ (s : Session) (d : Bytes) where
-  pub room-is : R.room d s ≡ takes (s .limit) (s .held) d
+  pub room-is : R.room d s ≡ takes (s .limit) (s .writer .held) d
   room-is = refl
 
 -- ---- and in the code's numbers, at the bytes that the ring holds

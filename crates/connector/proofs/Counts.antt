@@ -21,20 +21,22 @@ pub stays : (n : ℕ) → 4294967295 ≤ n → n < 4294967296 → n ≡ min (suc
 stays n h k = let most : n ≡ 4294967295 = omega arith in most ∙ sym (min-eq-right (omega arith))
 
 -- a size above the last one
-pub moved : (n : ℤ) (c : Connector) → ltZ (c .lastPersistedSize) n ≡ true
-    → record { spec = c .spec; attemptCount = 0; redirectsFollowed = 0; lastPersistedSize = n } ≡ progress (some n) c
-moved n c h = sym (ap (λ (t : Bool). cond t (record { spec = c .spec; attemptCount = 0; redirectsFollowed = 0; lastPersistedSize = n }) c) h)
+pub moved : (n : ℤ) (c : Connector) → ltZ (c .counters .lastPersistedSize) n ≡ true
+    → record { spec = c .spec; counters = record { attemptCount = 0; redirectsFollowed = 0; lastPersistedSize = n } } ≡ progress (some n) c
+moved n c h = sym (ap (λ (t : Bool). cond t (record { spec = c .spec; counters = record { attemptCount = 0; redirectsFollowed = 0; lastPersistedSize = n } }) c) h)
 
-pub unmoved : (n : ℤ) (c : Connector) → ltZ (c .lastPersistedSize) n ≡ false → c ≡ progress (some n) c
-unmoved n c h = sym (ap (λ (t : Bool). cond t (record { spec = c .spec; attemptCount = 0; redirectsFollowed = 0; lastPersistedSize = n }) c) h)
+pub unmoved : (n : ℤ) (c : Connector) → ltZ (c .counters .lastPersistedSize) n ≡ false → c ≡ progress (some n) c
+unmoved n c h = sym (ap (λ (t : Bool). cond t (record { spec = c .spec; counters = record { attemptCount = 0; redirectsFollowed = 0; lastPersistedSize = n } }) c) h)
 
 -- ---- one part set anew
 
 abbrev pub set-spec : AppendObjectSpec → Connector → Connector
-set-spec a c = record { spec = a; attemptCount = c .attemptCount; redirectsFollowed = c .redirectsFollowed; lastPersistedSize = c .lastPersistedSize }
+set-spec a c = record { spec = a; counters = c .counters }
 
 abbrev pub set-attempts : ℕ → Connector → Connector
-set-attempts n c = record { spec = c .spec; attemptCount = n; redirectsFollowed = c .redirectsFollowed; lastPersistedSize = c .lastPersistedSize }
+set-attempts n c =
+    record { spec = c .spec; counters = record { attemptCount = n; redirectsFollowed = c .counters .redirectsFollowed; lastPersistedSize = c .counters .lastPersistedSize } }
 
 abbrev pub set-redirects : ℕ → Connector → Connector
-set-redirects n c = record { spec = c .spec; attemptCount = c .attemptCount; redirectsFollowed = n; lastPersistedSize = c .lastPersistedSize }
+set-redirects n c =
+    record { spec = c .spec; counters = record { attemptCount = c .counters .attemptCount; redirectsFollowed = n; lastPersistedSize = c .counters .lastPersistedSize } }

@@ -6,7 +6,5 @@ use Rattle.connector.specs.declared.Connector.{Connector}
 unfoldable pub connectorOf : Connector → R.Connector
 connectorOf c = record {
   spec = specOf (c .spec);
-  attemptCount = c .«attempt_count»;
-  redirectsFollowed = c .«redirects_followed»;
-  lastPersistedSize = c .«last_persisted_size» .0;
+  counters = record { attemptCount = c .«attempt_count»; redirectsFollowed = c .«redirects_followed»; lastPersistedSize = c .«last_persisted_size» .0 };
 }

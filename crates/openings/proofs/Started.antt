@@ -94,9 +94,7 @@ module _ {o : Opening} {b : Beside} {store : Bytes} {table : List ℕ} {c : Conn
 
   connector-is : connectorOf c ≡ record {
     spec = S.handleResponse (responseOf (o .response) (b .responseHandle)) (dialled o b);
-    attemptCount = 0;
-    redirectsFollowed = 0;
-    lastPersistedSize = o .«last_persisted_size» .0;
+    counters = record { attemptCount = 0; redirectsFollowed = 0; lastPersistedSize = o .«last_persisted_size» .0 };
   }
   unfolding connectorOf
   connector-is = rw (connects .spec-is (b .payload), connects .attempts-is, connects .redirects-is, connects .size-is)

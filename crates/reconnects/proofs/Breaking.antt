@@ -48,14 +48,14 @@ use Rattle.reconnects.proofs.Following.{promise, ended, rerouted-keeps}
 
 -- ---- a break follows no redirect, and progress starts anew
 
-progress-low : (n : ℤ) (c : R.Connector) → progress (some n) c .redirectsFollowed ≤ c .redirectsFollowed
-progress-low n c = at (ltZ (c .lastPersistedSize) n)
+progress-low : (n : ℤ) (c : R.Connector) → progress (some n) c .counters .redirectsFollowed ≤ c .counters .redirectsFollowed
+progress-low n c = at (ltZ (c .counters .lastPersistedSize) n)
   where
-    at : (t : Bool) → cond t (record { spec = c .spec; attemptCount = 0; redirectsFollowed = 0; lastPersistedSize = n }) c .redirectsFollowed ≤ c .redirectsFollowed
+    at : (t : Bool) → cond t (record { spec = c .spec; counters = record { attemptCount = 0; redirectsFollowed = 0; lastPersistedSize = n } }) c .counters .redirectsFollowed ≤ c .counters .redirectsFollowed
     at true = omega arith
     at false = omega arith
 
-attempted-keeps : (t : Bool) (c : R.Connector) → attempted t c .redirectsFollowed ≡ c .redirectsFollowed
+attempted-keeps : (t : Bool) (c : R.Connector) → attempted t c .counters .redirectsFollowed ≡ c .counters .redirectsFollowed
 attempted-keeps true c = refl
 attempted-keeps false c = refl
 
@@ -68,7 +68,7 @@ unfolding connectorOf
 reconnected-low b n d c e =
     omega (
       arith,
-      ap (λ (k : R.Connector). k .redirectsFollowed) e,
+      ap (λ (k : R.Connector). k .counters .redirectsFollowed) e,
       attempted-keeps (M.isRedirect b) (progress (some n) (rerouted (M.redirectIn b) (connectorOf c))),
       progress-low n (rerouted (M.redirectIn b) (connectorOf c)),
       rerouted-keeps (M.redirectIn b) (connectorOf c),
@@ -111,7 +111,7 @@ module _ (b : M.Break) (v : R.Session) where
   rule-awaits : RuleTests check.Go → R.complete v ≡ false → R.isClosing (v .phase) ≡ false
       → step (R.break b) v
       ≡ (let c = reconnected b (v .worker .persistedSize) (v .worker .connector) in
-      R.answers (R.attempt (cond (M.isRedirect b) 0 (c .attemptCount)))
+      R.answers (R.attempt (cond (M.isRedirect b) 0 (c .counters .attemptCount)))
       (R.setPhase (R.verdict (M.isRedirect b)) R.nothing (R.setWorker (R.setConnector c (R.setMark false (v .worker))) v)))
   unfolding step breaks R.unless
   rule-awaits e f g = passed v _ _ e ∙ second _ _ _ f ∙ second _ _ _ g
@@ -167,7 +167,7 @@ module _ (s : Session) (store : Bytes) (table : List ℕ) (out : Bytes) (n : ℕ
         takes = omega arith;
         sent-is = refl;
         sent-in = omega arith;
-        steps = λ v. ap₂ (λ (t : Bool) (c : R.Connector). R.answers (R.attempt (cond t 0 (c .attemptCount)))
+        steps = λ v. ap₂ (λ (t : Bool) (c : R.Connector). R.answers (R.attempt (cond t 0 (c .counters .attemptCount)))
             (R.setPhase (R.verdict t) R.nothing (R.setWorker (R.setConnector c (R.setMark false (view s store table .worker))) (view s store table))))
             redirect-is d-is
             ∙ sym (rule-awaits b (view s store table) (at-view check.Go go) (complete-at false waits v) (closing-at false live));

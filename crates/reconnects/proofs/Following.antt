@@ -55,6 +55,6 @@ ended c k s r e = record {
     never a x g f = let z : _≡_ {A = ℕ} 0 1 = cc in absurd (omega arith)
 
 -- a redirect that is taken over is not counted yet
-pub rerouted-keeps : (o : Option M.Redirect) (c : R.Connector) → rerouted o c .redirectsFollowed ≡ c .redirectsFollowed
+pub rerouted-keeps : (o : Option M.Redirect) (c : R.Connector) → rerouted o c .counters .redirectsFollowed ≡ c .counters .redirectsFollowed
 rerouted-keeps none c = refl
 rerouted-keeps (some r) c = refl

@@ -54,14 +54,14 @@ below-three false true two e = refl
 below-three false false true e = some-none R.permanent e
 below-three false false false e = some-none R.exhausted e
 
-counted-low : (redirect : Bool) (c : R.Connector) (verdict : ℕ) → ruling redirect (c .redirectsFollowed) verdict ≡ none → c .redirectsFollowed ≤ maxRedirects
-    → counted redirect c .redirectsFollowed ≤ maxRedirects
-counted-low true c verdict e h = omega (arith, ltb-true (c .redirectsFollowed) maxRedirects (below-three (eqb verdict 4) (ltb (c .redirectsFollowed) maxRedirects) (eqb verdict 2) e))
+counted-low : (redirect : Bool) (c : R.Connector) (verdict : ℕ) → ruling redirect (c .counters .redirectsFollowed) verdict ≡ none → c .counters .redirectsFollowed ≤ maxRedirects
+    → counted redirect c .counters .redirectsFollowed ≤ maxRedirects
+counted-low true c verdict e h = omega (arith, ltb-true (c .counters .redirectsFollowed) maxRedirects (below-three (eqb verdict 4) (ltb (c .counters .redirectsFollowed) maxRedirects) (eqb verdict 2) e))
 counted-low false c verdict e h = h
 
 rerouted-low : (o : Option M.Redirect) (d c : Connector) → connectorOf d ≡ rerouted o (connectorOf c) → c .«redirects_followed» ≤ maxRedirects → d .«redirects_followed» ≤ maxRedirects
 unfolding connectorOf
-rerouted-low o d c e h = let same = ap (λ (k : R.Connector). k .redirectsFollowed) e ∙ rerouted-keeps o (connectorOf c) in omega arith
+rerouted-low o d c e h = let same = ap (λ (k : R.Connector). k .counters .redirectsFollowed) e ∙ rerouted-keeps o (connectorOf c) in omega arith
 
 -- ---- d is the connector with a redirect counted
 
@@ -82,7 +82,7 @@ module _ (s : Session) (redirect : Bool) (verdict : ℕ) (d : Connector)
   unfolding connectorOf
   low store table e v =
       let low = v .followed runs in
-      rw (ap (λ (c : R.Connector). c .redirectsFollowed) (counts (omega arith))) (counted-low redirect (connectorOf (s .worker .connector)) verdict e low)
+      rw (ap (λ (c : R.Connector). c .counters .redirectsFollowed) (counts (omega arith))) (counted-low redirect (connectorOf (s .worker .connector)) verdict e low)
 
   pub goes-on : ruling redirect (s .worker .connector .«redirects_followed») verdict ≡ none
       → Follows (judged redirect verdict) s (record {

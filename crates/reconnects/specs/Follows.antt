@@ -30,7 +30,7 @@ pub record Follows (rule : R.Session → R.Result) (s : Session) (r : Outcome) :
 abbrev pub judged : Bool → ℕ → R.Session → R.Result
 judged redirect verdict v =
     let c = v .worker .connector in
-    ruled (ruling redirect (c .redirectsFollowed) verdict) (R.setWorker (R.setConnector (counted redirect c) (v .worker)) v)
+    ruled (ruling redirect (c .counters .redirectsFollowed) verdict) (R.setWorker (R.setConnector (counted redirect c) (v .worker)) v)
 
 -- after a break: the mark is cleared, and a redirect answers 0
 abbrev pub awaits : Connector → Bool → Session → Outcome

@@ -20,11 +20,11 @@ use Rattle.transport.specs.declared.Session.{Session}
 use Rattle.transport.proofs.Views.{no-cursor}
 
 -- progress counts no redirect
-few : (size : Option ℤ) (c : R.Connector) → (progress size c) .redirectsFollowed ≤ c .redirectsFollowed
+few : (size : Option ℤ) (c : R.Connector) → (progress size c) .counters .redirectsFollowed ≤ c .counters .redirectsFollowed
 few none c = omega arith
-few (some n) c = at (ltZ (c .lastPersistedSize) n)
+few (some n) c = at (ltZ (c .counters .lastPersistedSize) n)
   where
-    at : (b : Bool) → (cond b (record { spec = c .spec; attemptCount = 0; redirectsFollowed = 0; lastPersistedSize = n }) c) .redirectsFollowed ≤ c .redirectsFollowed
+    at : (b : Bool) → (cond b (record { spec = c .spec; counters = record { attemptCount = 0; redirectsFollowed = 0; lastPersistedSize = n } }) c) .counters .redirectsFollowed ≤ c .counters .redirectsFollowed
     at true = omega arith
     at false = omega arith
 
@@ -52,11 +52,11 @@ module _ (f : R.Connector → R.Connector) (s : Session) (c : Connector) (is : c
 module _ (m : M.Response) (s : Session) (c : Connector) (fits : SpecFits (s .worker .connector .spec) → SpecFits (c .spec)) where
   pub response-prepares : connectorOf c ≡ updated m (connectorOf (s .worker .connector)) → Prepares (updated m) s (withConnector c s)
   unfolding connectorOf
-  response-prepares is = prepares (updated m) s c is fits (omega (arith, ap (λ (x : R.Connector). x .redirectsFollowed) is))
+  response-prepares is = prepares (updated m) s c is fits (omega (arith, ap (λ (x : R.Connector). x .counters .redirectsFollowed) is))
 
   pub handshake-prepares : (size : Option ℤ) → connectorOf c ≡ progress size (updated m (connectorOf (s .worker .connector)))
       → Prepares (λ (x : R.Connector). progress size (updated m x)) s (withConnector c s)
   unfolding connectorOf
   handshake-prepares size is =
       prepares (λ (x : R.Connector). progress size (updated m x)) s c is fits
-      (omega (arith, ap (λ (x : R.Connector). x .redirectsFollowed) is, few size (updated m (connectorOf (s .worker .connector)))))
+      (omega (arith, ap (λ (x : R.Connector). x .counters .redirectsFollowed) is, few size (updated m (connectorOf (s .worker .connector)))))

@@ -16,7 +16,7 @@ pub record Shows (s : R.Session) (v : View) : Type 0 where
   pub phase : phaseOf (v .phase) ≡ s .phase
   pub persistedSize : v .«persisted_size» .0 ≡ s .worker .persistedSize
   pub stored : v .stored ≡ R.stored s
-  pub held : v .held ≡ length (s .held)
+  pub held : v .held ≡ length (s .writer .held)
   pub capacity : v .capacity ≡ s .worker .replayBuffer .capacity
   pub waiters : v .waiters ≡ length (R.waiters s)
 

@@ -58,10 +58,7 @@ view s store table = record {
   slots = s .slots;
   phase = phaseOf (s .phase);
   sent = sentOf (s .sent);
-  made = s .made;
-  writeOffset = s .«write_offset» .0;
-  runningCrc32c = checksumOf (s .«running_crc32c»);
-  held = heldOf s store;
+  writer = record { made = s .made; writeOffset = s .«write_offset» .0; runningCrc32c = checksumOf (s .«running_crc32c»); held = heldOf s store };
   worker = workerOf (lentOf s) (endOf s) (s .worker) store table;
 }
 

@@ -49,12 +49,12 @@ use Rattle.uploads.proofs.Uploads.{passes, cuttable, past-is}
 -- ---- the rule, by its tests
 
 abbrev heldAt : R.Session → Bool
-heldAt v = not (R.isNil (v .held))
+heldAt v = not (R.isNil (v .writer .held))
 
 abbrev testsAt : ℕ → R.Session → Check
 testsAt out v =
     uploadCheck (R.phaseNumber (v .phase)) (v .worker .finalized) true (heldAt v) (R.shortOut out v) (R.full v) (cond (heldAt v) (R.noSlot v) (R.noWaiter v))
-    (R.pastEnd (v .held) v)
+    (R.pastEnd (v .writer .held) v)
 
 step-is : (k : PendingKind) (out : ℕ) (v : R.Session) → step (callOf k out) v ≡ U.asks (kindOf k) out v
 unfolding step
@@ -67,8 +67,8 @@ rule-refuses k out v x e = Rows.refused v _ x _ e
 
 rule-accepts : (k : R.PendingKind) (out : ℕ) (v : R.Session) → testsAt out v ≡ check.Go
     → U.asks k out v
-    ≡ R.choose (heldAt v) (R.answers (R.sends (U.cutRequest (v .held) v)) (U.cuts (v .held) v))
-    (R.answers (R.waits (U.requestFor k v) (suc (v .made))) (U.awaits k v))
+    ≡ R.choose (heldAt v) (R.answers (R.sends (U.cutRequest (v .writer .held) v)) (U.cuts (v .writer .held) v))
+    (R.answers (R.waits (U.requestFor k v) (suc (v .writer .made))) (U.awaits k v))
 unfolding U.asks R.closed R.unless R.choose
 rule-accepts k out v e = Rows.passed v _ _ e
 
@@ -112,10 +112,7 @@ after-wait k s store table made ws = record {
   slots = s .slots;
   phase = phaseOf (s .phase);
   sent = R.aRequest;
-  made = made;
-  writeOffset = s .«write_offset» .0;
-  runningCrc32c = checksumOf (s .«running_crc32c»);
-  held = heldOf s store;
+  writer = record { made = made; writeOffset = s .«write_offset» .0; runningCrc32c = checksumOf (s .«running_crc32c»); held = heldOf s store };
   worker = R.setPending ws (s .worker .finalized || U.isFinalizing (kindOf k)) (workerOf (lentOf s) (endOf s) (s .worker) store table);
 }
 

@@ -49,10 +49,7 @@ after s offset running queue mark = record {
   slots = s .slots;
   phase = phaseOf (s .phase);
   sent = R.aRequest;
-  made = s .made;
-  writeOffset = offset;
-  runningCrc32c = running;
-  held = [];
+  writer = record { made = s .made; writeOffset = offset; runningCrc32c = running; held = [] };
   worker = record {
     connector = connectorOf (s .worker .connector);
     replayBuffer = record { queue = queue; capacity = s .worker .«replay_buffer» .capacity };
