@@ -7,13 +7,17 @@ use Prim.Native.Nat.{ℕ}
 use lib.Dec.{eqb}
 use borrow.Author.Tests.{eqb-true, not-false}
 use Rattle.rules.specs.Message.{Bytes}
-use Rattle.rules.specs.Session.{PendingKind, Phase, live, closing, connecting, verdict, replay, ended, Session, append, Result, phaseNumber, isLive, isClosing, isReplay, closed}
+use Rattle.rules.specs.Session.{PendingKind, Phase, live, closing, connecting, verdict, replay, ended, Session, Call, append, Result, phaseNumber, isLive, isClosing, isReplay, closed}
+use Rattle.rules.specs.Step.{step}
 use Rattle.rules.specs.Server.{loses, onLink}
 use Rattle.rules.specs.Notes.{Brings, shows, accepted, requestIn, plain, brings, noted}
-use Rattle.rules.specs.World.{World, sending}
+use Rattle.rules.specs.World.{World, sending, after}
 use Rattle.rules.proofs.Tests.{never, or-no-right}
 use Rattle.rules.proofs.Lists.{cond-ind}
 use Rattle.rules.proofs.Inv.{isRegressed, Inv}
+
+abbrev pub calls : Call → Bool → World → World
+calls c could w = after c could w (step c (w .session))
 
 abbrev pub afterAppend : Bytes → Bool → World → Result → World
 afterAppend d could w r = record {

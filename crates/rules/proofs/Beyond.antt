@@ -12,6 +12,7 @@ use Rattle.rules.proofs.Lists.{all-map, Slice, slice-grow}
 use Rattle.rules.proofs.Inv.{Right, isRegressed, Inv}
 use Rattle.rules.proofs.Keeps.{runs-keep}
 use Rattle.rules.proofs.Start.{start-inv}
+use Rattle.rules.proofs.Turns.{steps-of-runs}
 use Rattle.rules.proofs.Demand3.{completed-mark, all-chunked}
 
 chunk-in-all : (W : Bytes) (r : Request) (d : ChecksummedData) → Slice W (r .writeOffset) (d .content) (d .crc32c) → RightChunk W r d
@@ -41,4 +42,5 @@ holds-beyond w i = record {
 }
 
 pub beyond-demand3 : BeyondDemand3
-beyond-demand3 o s a k v es = holds-beyond (runs es (start o s k)) (runs-keep es (start o s k) (start-inv o s a k v))
+beyond-demand3 = steps-of-runs (λ o k w. HoldsBeyond w)
+    (λ o s a k v es. holds-beyond (runs es (start o s k)) (runs-keep es (start o s k) (start-inv o s a k v)))

@@ -12,14 +12,14 @@ use Rattle.rules.specs.Reconnect.{breaks, judges, fails, rerouted, onRed
 use Rattle.rules.specs.Replay.{unsent}
 use Rattle.rules.specs.Step.{step}
 use Rattle.rules.specs.Notes.{shows, plain, noted}
-use Rattle.rules.specs.World.{World, calls}
+use Rattle.rules.specs.World.{World}
 use Rattle.rules.proofs.Lists.{cond-ind, choose-ind, unless-ind}
 use Rattle.rules.proofs.Inv.{isRegress, isRegressed, Inv}
 use Rattle.rules.proofs.Server.{handed-none, server-loses}
 use Rattle.rules.proofs.Flow.{flow-off, flow-ended, flow-loses}
 use Rattle.rules.proofs.Wait.{wait-end, wait-phase, wait-zero}
 use Rattle.rules.proofs.Buffer.{replay-off}
-use Rattle.rules.proofs.After.{Other, Unsent, not-at, open-not-replay, replay-over, over-steady}
+use Rattle.rules.proofs.After.{Other, Unsent, not-at, open-not-replay, replay-over, over-steady, calls}
 
 -- the session goes on in another phase, neither of them a replay
 quiet : {from : ℕ} {w : World} (ph : Phase) (mark : Bool) (c : Connector) → isEnded (w .session .phase) ≡ false → isReplay (w .session .phase) ≡ false

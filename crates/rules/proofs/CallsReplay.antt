@@ -16,14 +16,14 @@ use Rattle.rules.specs.Respond.{bareRequest}
 use Rattle.rules.specs.Replay.{place, handsWaiter, handsChunk, hands}
 use Rattle.rules.specs.Step.{step}
 use Rattle.rules.specs.Notes.{contentOf}
-use Rattle.rules.specs.World.{World, calls}
+use Rattle.rules.specs.World.{World}
 use Rattle.rules.proofs.Tests.{never}
 use Rattle.rules.proofs.Lists.{choose-ind, unless-ind, opt-ind, all-get, Part, parts, take-some, take-none, take-none-suc, chain-place}
 use Rattle.rules.proofs.Inv.{Right, Asked, Fit, goalAt, Inv}
 use Rattle.rules.proofs.Server.{right-bare, right-chunk, handed-none, handed-one, server-sends}
 use Rattle.rules.proofs.Flow.{fit-bare, fit-chunk, fit-asked, dataless-adds, flow-done, flow-sends}
 use Rattle.rules.proofs.Wait.{wait-phase, wait-zero}
-use Rattle.rules.proofs.After.{Other}
+use Rattle.rules.proofs.After.{Other, calls}
 
 -- what the server has once it took what the replay handed out so far
 abbrev sofar : Bytes → ℕ → ℕ → List ReplayChunk → Bytes

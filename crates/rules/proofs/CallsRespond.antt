@@ -10,12 +10,12 @@ use lib.IntN.{ℤ, pos, negsuc}
 use lib.Signed.{ltZ}
 use borrow.Author.Tests.{ltb-true}
 use Rattle.rules.specs.Message.{Bytes, Response, sizeOf}
-use Rattle.rules.specs.Session.{Connector, alreadyFinalized, replay, Session, handshake, Result, setConnector, setMark, setWorker, isReplay, isEnded, chunks, waiters, ending}
+use Rattle.rules.specs.Session.{Connector, alreadyFinalized, replay, Session, Call, handshake, Result, setConnector, setMark, setWorker, isReplay, isEnded, chunks, waiters, ending}
 use Rattle.rules.specs.Respond.{ack, satisfied, absorbs, takes, bareRequest, lastStep, responds, toReplay, shakes}
 use Rattle.rules.specs.Step.{step}
 use Rattle.rules.specs.Server.{setMessages, onLink, connects, Told, alone, inResource, says}
 use Rattle.rules.specs.Notes.{shows, accepted, requestIn, Brings, largestOf, noted}
-use Rattle.rules.specs.World.{World, sending, calls, handsOn}
+use Rattle.rules.specs.World.{World, sending, handsOn}
 use Rattle.rules.proofs.Tests.{never, and-right}
 use Rattle.rules.proofs.Lists.{cond-ind, choose-ind, unless-ind}
 use Rattle.rules.proofs.Inv.{AtLeast, least, Ascends, stockOf, BufferOK, WaitOK, ServerOK, FlowOK, HandedOK, isRegressed, Inv}
@@ -23,7 +23,7 @@ use Rattle.rules.proofs.Server.{ascends-le, ascends-tail, right-bare, h
 use Rattle.rules.proofs.Flow.{fit-bare, dataless-adds, goal-off, flow-off, flow-ended, flow-sends, flow-messages, flow-connects, flow-refused}
 use Rattle.rules.proofs.Wait.{wait-end, wait-phase, wait-zero, wait-serves}
 use Rattle.rules.proofs.Buffer.{buffer-acks, replay-off}
-use Rattle.rules.proofs.After.{open-not-replay}
+use Rattle.rules.proofs.After.{open-not-replay, calls}
 
 -- ---- the world after a stated size o, by a message and by a handshake
 
@@ -224,7 +224,7 @@ module _ {from : ℕ} (kept rest : List Response) (could keep : Bool) (w : World
 
 -- the host hands on the next message
 pub hands-keeps : {from : ℕ} (ms : List Response) (could keep : Bool) (w : World) (i : Inv from w) → Ascends (i .p) ms (length (w .server .stored .object)) (w .server .stored .finalised)
-    → Inv from (handsOn ms could keep w)
+    → Inv from (handsOn ms could keep (λ (c : Call). step c (w .session)) w)
 unfolding step responds
 hands-keeps [] could keep w i h = i
 hands-keeps {from} (m ∷ rest) could keep w i h =

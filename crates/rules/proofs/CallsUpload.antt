@@ -3,7 +3,7 @@ use mathlib.Core.Path.{_≡_, refl, sym, ap, _∙_}
 use mathlib.Core.Bool.{Bool, true, false, cond, _||_}
 use mathlib.Core.Option.{none, some}
 use mathlib.Core.List.{[], _∷_, _++_, append-assoc, append-nil}
-use Prim.Native.Nat.{ℕ, suc, _+_, _-_, min}
+use Prim.Native.Nat.{ℕ, _+_, _-_, min}
 use native.Mathlib.Nat.{add-zero}
 use lib.ListN.{length, take, length-append}
 use lib.Seq.{take-nil}
@@ -16,7 +16,7 @@ use Rattle.rules.specs.Upload.{chunkOf, cutRequest, cuts, room, holding,
 use Rattle.rules.specs.Step.{step}
 use Rattle.rules.specs.Server.{onLink}
 use Rattle.rules.specs.Notes.{Mark, Notes, contentOf, taken}
-use Rattle.rules.specs.World.{World, sending, calls}
+use Rattle.rules.specs.World.{World, sending}
 use Rattle.rules.proofs.Tests.{and-no, or-left}
 use Rattle.rules.proofs.Lists.{choose-ind, unless-ind, nil-of, Part}
 use Rattle.rules.proofs.Inv.{Right, Asked, BufferOK, stockOf, tallyOf, Inv}
@@ -24,7 +24,7 @@ use Rattle.rules.proofs.Server.{right-chunk, handed-none, handed-one, h
 use Rattle.rules.proofs.Flow.{fit-chunk, fit-asked, dataless-adds, goal-off, flow-sends}
 use Rattle.rules.proofs.Wait.{wait-holds, wait-cuts, wait-new, wait-zero, asked-new, request-at}
 use Rattle.rules.proofs.Buffer.{buffer-cuts, buffer-holds, replay-off, replay-on}
-use Rattle.rules.proofs.After.{Appended, AskedFor, not-at, not-sent}
+use Rattle.rules.proofs.After.{Appended, AskedFor, not-at, not-sent, calls}
 
 -- ---- a chunk is cut
 
@@ -90,13 +90,13 @@ asks-keeps {from} k out could w i =
       inv = cut-keeps could w i (w .session .writer .held) (w .notes .all) 0 (not-sent (w .session) (h .1 .0)) (h .0) (not-at 1 4 (w .session .phase) refl (h .1 .1 .0))
           (i .buffer .all-is) refl;
     })
-    (λ e. waited (h .0) (not-at 1 4 (w .session .phase) refl (h .1 .1 .0)) (nil-of (w .session .writer .held) e)))
+    (λ e. waited _ (h .0) (not-at 1 4 (w .session .phase) refl (h .1 .1 .0)) (nil-of (w .session .writer .held) e)))
   where
     s : Session
     s = w .session
 
-    m : Mark
-    m = record { kind = k; before = length (w .notes .all) }
+    m : ℕ → Mark
+    m x = record { kind = k; before = length (w .notes .all); number = x }
 
     a : Asked (i .K) (s .worker .finalized || isFinalizing k) (waiterOf k s)
     a = asked-new k (s .worker .finalized) s (i .K) (i .buffer .offset-is) (i .buffer .sum)
@@ -104,8 +104,9 @@ asks-keeps {from} k out could w i =
     sent : s .worker .finalized ≡ true → (s .worker .finalized || isFinalizing k) ≡ true
     sent = or-left (s .worker .finalized) (isFinalizing k)
 
-    waited : isEnded (s .phase) ≡ false → isReplay (s .phase) ≡ false → s .writer .held ≡ [] → AskedFor from k could w (answers (waits (requestFor k s) (suc (s .writer .made))) (awaits k s))
-    waited e o n =
+    -- whatever number it is told
+    waited : (x : ℕ) → isEnded (s .phase) ≡ false → isReplay (s .phase) ≡ false → s .writer .held ≡ [] → AskedFor from k could w (answers (waits (requestFor k s) x) (awaits k s))
+    waited x e o n =
         let l : length (w .notes .all) ≡ length (i .K) = ap length (i .buffer .all-is ∙ ap (λ (y : Bytes). i .K ++ y) n ∙ append-nil (i .K)) in
         record {
           inv = record {
@@ -114,7 +115,7 @@ asks-keeps {from} k out could w i =
             since = i .since;
             steady = i .steady;
             buffer = buffer-holds (s .writer .held) (w .notes .all) 0 (i .buffer .all-is) (sym (ap length n)) (i .buffer .small) (i .buffer);
-            wait = wait-new (waiterOf k s) m e n (request-at k s ∙ i .buffer .offset-is ∙ ap pos (sym l)) refl l a (wait-zero (i .wait));
+            wait = wait-new (waiterOf k s) (m x) e n (request-at k s ∙ i .buffer .offset-is ∙ ap pos (sym l)) refl l a (wait-zero (i .wait));
             replays = replay-off o;
             server = server-sends could (some (requestFor k s)) (a .right) (server-sent sent (i .server));
             flow = flow-sends could (requestFor k s) (i .K) e (goal-off (i .p) (chunks s) (s .phase) o) (fit-asked (waiterOf k s) a)

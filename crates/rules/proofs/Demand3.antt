@@ -11,12 +11,14 @@ use Rattle.rules.specs.Message.{Bytes}
 use Rattle.rules.specs.Session.{finalizing}
 use Rattle.rules.specs.Notes.{Mark}
 use Rattle.rules.specs.World.{World, runs, start}
-use Rattle.rules.specs.Demand3.{Persisted, Kept, Replayed, Holds, Demand3}
+use Rattle.rules.specs.Demand3.{Persisted, Kept, Replayed, Numbered, Holds, Demand3}
 use Rattle.rules.proofs.Lists.{all-get, get-front, split-left}
 use Rattle.rules.proofs.Inv.{stockOf, tallyOf, Completed, BufferOK, Final, Inv}
 use Rattle.rules.proofs.Server.{server-below, server-within}
 use Rattle.rules.proofs.Keeps.{runs-keep}
 use Rattle.rules.proofs.Start.{start-inv}
+use Rattle.rules.proofs.CalledStart.{numbered-runs}
+use Rattle.rules.proofs.Turns.{steps-of-runs}
 
 -- a waiter reported completed
 pub completed-mark : {from : ℕ} {w : World} (i : Inv from w) (n : ℕ) (m : Mark) → n < w .notes .completed → getElem? (w .notes .marks) n ≡ some m
@@ -37,10 +39,11 @@ object-first {w} i =
 pub all-chunked : {from : ℕ} {w : World} (i : Inv from w) → w .session .worker .finalized ≡ true → w .notes .all ≡ i .K
 all-chunked i e = i .buffer .all-is ∙ ap (λ (r : Bytes). i .K ++ r) (i .wait .no-held e) ∙ append-nil (i .K)
 
-pub holds : {from : ℕ} (w : World) → Inv from w → Holds w
-holds w i = record {
+pub holds : {from : ℕ} (w : World) → Inv from w → Numbered (w .session) (w .notes) → Holds w
+holds w i n = record {
   begins = (w .server .stored .tail ++ i .server .rest ++ w .session .writer .held, object-first i);
   counted = counted;
+  numbered = n;
   waited = waited;
   kept = kept;
   replayed = replayed;
@@ -86,4 +89,6 @@ holds w i = record {
         ∙ sym (all-chunked i (f .0))
 
 pub demand3 : Demand3
-demand3 o s a k v es = holds (runs es (start o s k)) (runs-keep es (start o s k) (start-inv o s a k v))
+demand3 = steps-of-runs (λ o k w. Holds w)
+    (λ o s a k v es. holds (runs es (start o s k)) (runs-keep es (start o s k) (start-inv o s a k v))
+    (numbered-runs o s a k es))

@@ -8,13 +8,14 @@ use lib.ListN.{getElem?}
 use Rattle.rules.specs.Message.{Request}
 use Rattle.rules.specs.Session.{Call, append, flush, finalise, nextRequest, close, sendFailed, response, handshake, break, judge, failedAttempt, chunks}
 use Rattle.rules.specs.Server.{Server, carries, onLink, cutOff}
-use Rattle.rules.specs.World.{World, Event, hostCalls, hostHands, hostSends, hostGreets, serverTakes, serverPersists, serverSays, linkCuts, calls, onLine, resends, unprompted, happens, runs}
+use Rattle.rules.specs.World.{World, Event, hostCalls, hostHands, hostSends, hostGreets, serverTakes, serverPersists, serverSays, linkCuts, onLine, resends, unprompted, happens, runs}
 use Rattle.rules.proofs.Tests.{never}
 use Rattle.rules.proofs.Lists.{cond-ind, opt-ind, all-get}
 use Rattle.rules.proofs.Inv.{ServerOK, FlowOK, Inv}
 use Rattle.rules.proofs.Server.{says-ascends, server-sends, server-loses, server-messages, server-cut, server-persists, server-takes, takes-final}
 use Rattle.rules.proofs.Flow.{flow-loses, flow-messages, flow-persists, flow-takes}
 use Rattle.rules.proofs.Wait.{wait-final}
+use Rattle.rules.proofs.After.{calls}
 use Rattle.rules.proofs.CallsUpload.{append-keeps, flush-keeps, finalise-keeps}
 use Rattle.rules.proofs.CallsRespond.{hands-keeps, handshake-keeps}
 use Rattle.rules.proofs.CallsReconnect.{close-keeps, unsent-keeps, break-keeps, judge-keeps, failed-keeps}

@@ -14,11 +14,15 @@ pub mod CallsRespond
 pub mod Keeps
 pub mod Accepted
 pub mod Start
+pub mod CalledInv
+pub mod Called
+pub mod CalledStart
+pub mod Turns
 pub mod Demand3
 pub mod Beyond
 pub mod Total
-pub mod Program
 pub mod Bound
+pub mod Program
 pub mod Refused
 pub mod Push
 pub mod Evidence

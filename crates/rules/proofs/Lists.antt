@@ -91,7 +91,7 @@ pub bytes-snoc : (cs : List ReplayChunk) (c : ReplayChunk) → bytesOf (cs ++ (c
 bytes-snoc [] c = append-nil (c .bytes)
 bytes-snoc (d ∷ ds) c = ap (λ (r : Bytes). d .bytes ++ r) (bytes-snoc ds c) ∙ sym (append-assoc (d .bytes) (bytesOf ds) (c .bytes))
 
-abs-sub : (a n : ℕ) → a ≤ n → natAbs (pos n -ℤ pos a) ≡ n - a
+pub abs-sub : (a n : ℕ) → a ≤ n → natAbs (pos n -ℤ pos a) ≡ n - a
 abs-sub zero n h = omega arith
 abs-sub (suc a) n h =
     cond-ind (λ (z : ℤ). natAbs z ≡ n - suc a) (ltb n (suc a)) (λ e. absurd (omega (arith, ltb-true n (suc a) e))) (λ e. refl)

@@ -1,109 +1,96 @@
--- The claims of any program whose calls promise `step` at a view: demand 3, what is beyond it, the byte total.
+-- What is always so of the rules is always so of a program whose calls keep their contracts, where the contracts give `step` at a view: one lift for the
+-- claims over turns, one for the claims over calls.
 use mathlib.Core.Path.{_≡_, refl, sym, ap, _∙_, subst}
-use mathlib.Core.Bool.{Bool, true, false, cond}
-use mathlib.Core.Option.{Option, none, some}
-use mathlib.Core.List.{List, [], _∷_}
-use Prim.Native.Nat.{ℕ}
-use Rattle.rules.specs.Message.{Response}
-use Rattle.rules.specs.Session.{Session, Call, response, handshake, Result, answers}
+use mathlib.Core.Option.{Option}
+use mathlib.Core.List.{List, [], _∷_, map}
+use Rattle.rules.specs.Session.{Session, Call, Answer, Result, answers}
 use Rattle.rules.specs.Step.{step}
 use Rattle.rules.specs.Opening.{Opening, opened, opens}
-use Rattle.rules.specs.Server.{Stored, says}
-use Rattle.rules.specs.World.{World, Event, hostCalls, hostHands, hostSends, hostGreets, serverTakes, serverPersists, serverSays, linkCuts, after, unprompted, happens, handsOn, ServerAt, start}
+use Rattle.rules.specs.Server.{Stored}
+use Rattle.rules.specs.World.{World, callIn}
+use Rattle.rules.specs.Program.{Turn, turned, AllDid, ran, Always, itself, Steps, AlwaysSteps}
 use Rattle.rules.specs.Demand3.{Holds}
 use Rattle.rules.specs.Beyond.{HoldsBeyond}
 use Rattle.rules.specs.Total.{firstTaken, Total}
-use Rattle.rules.specs.Program.{handedCall, callIn, handsWith, withResult, Turn, turned, AllDid, ran, AlwaysDid}
+use Rattle.rules.specs.Calls.{Run, called, calledAll, begin, AlwaysSince, HoldsCalled, CallTurn, AllDidCall, ranCalls, leftBy, AlwaysDidCall}
 use Rattle.rules.proofs.Lists.{opt-ind}
-use Rattle.rules.proofs.Inv.{Inv}
-use Rattle.rules.proofs.Keeps.{keeps}
-use Rattle.rules.proofs.Start.{start-inv}
-use Rattle.rules.proofs.Demand3.{holds}
-use Rattle.rules.proofs.Beyond.{holds-beyond}
-use Rattle.rules.proofs.Total.{totals}
+use Rattle.rules.proofs.Demand3.{demand3}
+use Rattle.rules.proofs.Beyond.{beyond-demand3}
+use Rattle.rules.proofs.Total.{byte-total}
+use Rattle.rules.proofs.CalledStart.{calls-hold}
 
--- ---- a turn whose call gave what `step` gives is the event
+-- Valid: what an accepted opening gives and each call keeps
+module _ {S : Type 0} (view : S → Session) (Does : Call → S → Answer → S → Type 0) (Begins : Opening → S → Type 0) (Valid : S → Type 0)
+    (keeps : (c : Call) (s : S) (a : Answer) (s′ : S) → Does c s a s′ → Valid s → Valid s′ × (answers a (view s′) ≡ step c (view s)))
+    (begun : (o : Opening) (s : S) → Begins o s → Valid s × (opens o ≡ opened (view s))) where
+  -- ---- turns
 
-hands-same : (ms : List Response) (could keep : Bool) (r : Result) (w : World) → ((c : Call) → handedCall ms ≡ some c → r ≡ step c (w .session))
-    → handsWith ms could keep r w ≡ handsOn ms could keep w
-hands-same [] could keep r w h = refl
-hands-same (m ∷ rest) could keep r w h = ap (λ (x : Result). handsWith (m ∷ rest) could keep x w) (h (response m) refl)
+  -- a turn as the rules see it
+  abbrev seen : Turn view Does → Turn itself Steps
+  seen t = record { event = t .event; answer = t .answer; left = view (t .left) }
 
-calls-same : (b : Bool) (c : Call) (could : Bool) (r : Result) (w : World) → ((d : Call) → cond b (some c) none ≡ some d → r ≡ step d (w .session))
-    → cond b (after c could w r) w ≡ cond b (after c could w (step c (w .session))) w
-calls-same true c could r w h = ap (λ (x : Result). after c could w x) (h c refl)
-calls-same false c could r w h = refl
-
-same : (e : Event) (r : Result) (w : World) → ((c : Call) → callIn e w ≡ some c → r ≡ step c (w .session)) → withResult e r w ≡ happens e w
-unfolding happens
-same (hostCalls c could) r w h = calls-same (unprompted c) c could r w h
-same (hostHands could keep) r w h = hands-same (w .server .link .messages) could keep r w h
-same (hostSends n) r w h = refl
-same (hostGreets t handle) r w h = ap (λ (x : Result). after (handshake (says (some t) handle (w .server .stored))) true w x) (h _ refl)
-same (serverTakes bytes had) r w h = refl
-same (serverPersists n) r w h = refl
-same (serverSays t handle) r w h = refl
-same (linkCuts bytes had) r w h = refl
-
--- ---- the session after a turn is what its call left, or what was there
-
-hands-left : (ms : List Response) (could keep : Bool) (r : Result) (w : World) → (handedCall ms ≡ none → w .session ≡ r .session)
-    → (handsWith ms could keep r w) .session ≡ r .session
-hands-left [] could keep r w h = h refl
-hands-left (m ∷ rest) could keep r w h = refl
-
-calls-left : (b : Bool) (c : Call) (could : Bool) (r : Result) (w : World) → (cond b (some c) none ≡ none → w .session ≡ r .session)
-    → (cond b (after c could w r) w) .session ≡ r .session
-calls-left true c could r w h = refl
-calls-left false c could r w h = h refl
-
-says-left : (b : Bool) (v w : World) (s : Session) → v .session ≡ s → w .session ≡ s → (cond b v w) .session ≡ s
-says-left true v w s e f = e
-says-left false v w s e f = f
-
-left-is : (e : Event) (r : Result) (w : World) → (callIn e w ≡ none → w .session ≡ r .session) → (withResult e r w) .session ≡ r .session
-unfolding happens
-left-is (hostCalls c could) r w h = calls-left (unprompted c) c could r w h
-left-is (hostHands could keep) r w h = hands-left (w .server .link .messages) could keep r w h
-left-is (hostSends n) r w h = h refl
-left-is (hostGreets t handle) r w h = refl
-left-is (serverTakes bytes had) r w h = h refl
-left-is (serverPersists n) r w h = h refl
-left-is (serverSays t handle) r w h = says-left (w .server .link .alive) _ w (r .session) (h refl) (h refl)
-left-is (linkCuts bytes had) r w h = h refl
-
--- ---- the claims
-
-module _ {S : Type 0} (Valid : S → Type 0) (view : S → Session) where
-  ran-keeps : {from : ℕ} (ts : List (Turn Valid view)) (s : S) (w : World) → Valid s → w .session ≡ view s → AllDid Valid view ts s w → Inv from w
-      → Inv from (ran Valid view ts w)
-  ran-keeps [] s w p e d i = i
-  ran-keeps {from} (t ∷ ts) s w p e d i =
-      let q : withResult (t .event) (answers (t .answer) (view (t .left))) w ≡ happens (t .event) w
-      = same (t .event) (answers (t .answer) (view (t .left))) w (λ c f. (d .0 .called c f p) .1 ∙ ap (step c) (sym e)) in
+  all-seen : (ts : List (Turn view Does)) (s : S) (w : World) → Valid s → AllDid view Does ts s w → AllDid itself Steps (map seen ts) (view s) w
+  all-seen [] s w p d = tt
+  all-seen (t ∷ ts) s w p d =
       let valid : Valid (t .left)
       = opt-ind (λ (o : Option Call). callIn (t .event) w ≡ o → Valid (t .left)) (callIn (t .event) w)
-      (λ _ f. subst Valid (sym (d .0 .idle f)) p) (λ c _ f. (d .0 .called c f p) .0) refl in
-      ran-keeps ts (t .left) (turned Valid view t w) valid (left-is (t .event) (answers (t .answer) (view (t .left))) w (λ f. e ∙ ap view (sym (d .0 .idle f)))) (d .1)
-      (subst (Inv from) (sym q) (keeps (t .event) w i))
+      (λ _ f. subst Valid (sym (d .0 .idle f)) p) (λ c _ f. (keeps c s (t .answer) (t .left) (d .0 .called c f) p) .0) refl in (
+        record { called = λ c f. (keeps c s (t .answer) (t .left) (d .0 .called c f) p) .1; idle = λ f. ap view (d .0 .idle f) },
+        all-seen ts (t .left) (turned view Does t w) valid (d .1),
+      )
 
-  program-inv : (o : Opening) (s : S) → Valid s → opens o ≡ opened (view s) → (k : Stored) → ServerAt o k
-      → (ts : List (Turn Valid view)) → AllDid Valid view ts s (start o (view s) k)
-      → Inv (firstTaken (o .payload) (k .object)) (ran Valid view ts (start o (view s) k))
-  unfolding start
-  program-inv o s p a k v ts d = ran-keeps ts s (start o (view s) k) p refl d (start-inv o (view s) a k v)
+  ran-seen : (ts : List (Turn view Does)) (w : World) → ran itself Steps (map seen ts) w ≡ ran view Does ts w
+  ran-seen [] w = refl
+  ran-seen (t ∷ ts) w = ran-seen ts (turned view Does t w)
 
-  -- whatever the invariant gives
-  pub program-always : (Q : World → Type 0) → ((from : ℕ) (w : World) → Inv from w → Q w) → AlwaysDid Valid view Q
-  program-always Q f o s p a k v ts d = f (firstTaken (o .payload) (k .object)) (ran Valid view ts (start o (view s) k)) (program-inv o s p a k v ts d)
+  pub program-always : (Q : Opening → Stored → World → Type 0) → AlwaysSteps Q → Always view Does Begins Q
+  program-always Q h o s b k v ts d =
+      subst (Q o k) (ran-seen ts _) (h o (view s) ((begun o s b) .1) k v (map seen ts) (all-seen ts s _ ((begun o s b) .0) d))
 
-  pub program-demand3 : AlwaysDid Valid view Holds
-  program-demand3 = program-always Holds (λ from. holds)
+  pub program-demand3 : Always view Does Begins (λ o k w. Holds w)
+  program-demand3 = program-always (λ o k w. Holds w) demand3
 
-  pub program-beyond : AlwaysDid Valid view HoldsBeyond
-  program-beyond = program-always HoldsBeyond (λ from. holds-beyond)
+  pub program-beyond : Always view Does Begins (λ o k w. HoldsBeyond w)
+  program-beyond = program-always (λ o k w. HoldsBeyond w) beyond-demand3
 
-  pub program-byte-total : (o : Opening) (s : S) → Valid s → opens o ≡ opened (view s) → (k : Stored) → ServerAt o k
-      → (ts : List (Turn Valid view)) → AllDid Valid view ts s (start o (view s) k)
-      → Total (firstTaken (o .payload) (k .object)) (ran Valid view ts (start o (view s) k))
-  program-byte-total o s p a k v ts d = totals (ran Valid view ts (start o (view s) k)) (program-inv o s p a k v ts d)
+  pub program-byte-total : Always view Does Begins (λ o k w. Total (firstTaken (o .payload) (k .object)) w)
+  program-byte-total = program-always (λ o k w. Total (firstTaken (o .payload) (k .object)) w) byte-total
+
+  -- ---- calls alone
+
+  abbrev callsOf : List (CallTurn view Does) → List Call
+  callsOf [] = []
+  callsOf (t ∷ ts) = t .call ∷ callsOf ts
+
+  ran-called : (ts : List (CallTurn view Does)) (s : S) (r : Run) → Valid s → r .session ≡ view s → AllDidCall view Does ts s
+      → ranCalls view Does ts r ≡ calledAll (callsOf ts) r
+  unfolding calledAll
+  ran-called [] s r p e d = refl
+  ran-called (t ∷ ts) s r p e d =
+      let k : Valid (t .left) × (answers (t .answer) (view (t .left)) ≡ step (t .call) (view s)) = keeps (t .call) s (t .answer) (t .left) (d .0) p in
+      ran-called ts (t .left) (called (t .call) (answers (t .answer) (view (t .left))) r) (k .0) refl (d .1)
+      ∙ ap (λ (x : Result). calledAll (callsOf ts) (called (t .call) x r)) (k .1 ∙ ap (step (t .call)) (sym e))
+
+  pub program-called : (Q : Run → Run → Type 0) → AlwaysSince Q → AlwaysDidCall view Does Begins Q
+  unfolding begin
+  program-called Q h o s b ts d =
+      subst (Q (begin o (view s))) (sym (ran-called ts s (begin o (view s)) ((begun o s b) .0) refl d)) (h o (view s) ((begun o s b) .1) (callsOf ts))
+
+  -- what the calls left is valid, and is seen as the session of the run
+  pub record Left (ts : List (CallTurn view Does)) (s : S) (r : Run) : Type 0 where
+    pub valid : Valid (leftBy view Does ts s)
+    pub session-is : view (leftBy view Does ts s) ≡ (ranCalls view Does ts r) .session
+
+  left-valid : (ts : List (CallTurn view Does)) (s : S) (r : Run) → Valid s → r .session ≡ view s → AllDidCall view Does ts s → Left ts s r
+  left-valid [] s r p e d = record { valid = p; session-is = sym e }
+  left-valid (t ∷ ts) s r p e d =
+      let l : Left ts (t .left) (called (t .call) (answers (t .answer) (view (t .left))) r)
+      = left-valid ts (t .left) _ ((keeps (t .call) s (t .answer) (t .left) (d .0) p) .0) refl (d .1) in
+      record { valid = l .valid; session-is = l .session-is }
+
+  pub program-left : (o : Opening) (s : S) → Begins o s → (ts : List (CallTurn view Does)) → AllDidCall view Does ts s → Left ts s (begin o (view s))
+  unfolding begin
+  program-left o s b ts d = left-valid ts s (begin o (view s)) ((begun o s b) .0) refl d
+
+  pub program-calls-hold : AlwaysDidCall view Does Begins (λ _ r. HoldsCalled r)
+  program-calls-hold = program-called (λ _ r. HoldsCalled r) calls-hold

@@ -5,10 +5,11 @@ use native.Mathlib.Omega.{arith}
 use lib.ListN.{length, length-append, length-drop}
 use Rattle.rules.specs.Session.{stored}
 use Rattle.rules.specs.World.{World, runs, start}
-use Rattle.rules.specs.Total.{Total, ByteTotal}
+use Rattle.rules.specs.Total.{firstTaken, Total, ByteTotal}
 use Rattle.rules.proofs.Inv.{Inv}
 use Rattle.rules.proofs.Keeps.{runs-keep}
 use Rattle.rules.proofs.Start.{start-inv}
+use Rattle.rules.proofs.Turns.{steps-of-runs}
 
 pub totals : {from : ℕ} (w : World) → Inv from w → Total from w
 unfolding stored
@@ -19,4 +20,5 @@ totals {from} w i = record {
 }
 
 pub byte-total : ByteTotal
-byte-total o s a k v es = totals (runs es (start o s k)) (runs-keep es (start o s k) (start-inv o s a k v))
+byte-total = steps-of-runs (λ o k w. Total (firstTaken (o .payload) (k .object)) w)
+    (λ o s a k v es. totals (runs es (start o s k)) (runs-keep es (start o s k) (start-inv o s a k v)))

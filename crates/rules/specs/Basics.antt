@@ -4,7 +4,7 @@ pub use mathlib.Core.Logic.{_≢_}
 pub use mathlib.Core.Bool.{Bool, true, false, not, cond, _&&_, _||_}
 pub use mathlib.Core.Option.{Option, none, some, Option·getD}
 pub use mathlib.Core.List.{List, [], _∷_, _++_}
-pub use Prim.Native.Nat.{ℕ, zero, suc, _+_, _-_, _*_, _^_, min, max, _<_}
+pub use Prim.Native.Nat.{ℕ, zero, suc, _+_, _-_, _*_, _^_, min, max, _≤_, _<_}
 pub use lib.ListN.{length, take, drop, getElem?}
 pub use lib.Dec.{leb, ltb, eqb}
 pub use lib.IntN.{ℤ, pos, negsuc, natAbs, _+ℤ_, _-ℤ_}

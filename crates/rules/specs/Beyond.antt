@@ -5,7 +5,7 @@ use Rattle.rules.specs.Message.{Bytes, ChecksummedData, Request}
 use Rattle.rules.specs.Session.{finalizing, regressed, ended}
 use Rattle.rules.specs.Notes.{Mark}
 use Rattle.rules.specs.World.{World}
-use Rattle.rules.specs.Demand3.{Always}
+use Rattle.rules.specs.Program.{AlwaysSteps}
 
 -- (a) a chunk has the bytes of W at its offset, and their sum
 pub record RightChunk (W : Bytes) (r : Request) (d : ChecksummedData) : Type 0 where
@@ -35,4 +35,4 @@ pub record HoldsBeyond (w : World) : Type 0 where
   pub steady : w .session .phase ≢ ended regressed
 
 abbrev pub BeyondDemand3 : Type 0
-BeyondDemand3 = Always HoldsBeyond
+BeyondDemand3 = AlwaysSteps (λ o k w. HoldsBeyond w)

@@ -1,17 +1,10 @@
--- Demand 3 of the customer's letter, stated: one claim over every list of events from an accepted opening, with each sentence as a field.
-use mathlib.Core.Path.{_≡_}
-use mathlib.Core.Bool.{true}
-use mathlib.Core.Option.{some}
-use mathlib.Core.List.{List, _++_}
-use Prim.Native.Nat.{ℕ, _-_, _≤_, _<_}
-use lib.ListN.{length, take, drop, getElem?}
-use lib.IntN.{pos}
+-- Demand 3 of the customer's letter, stated: one claim over every list of turns from an accepted opening, with each sentence as a field.
+use Rattle.rules.specs.Basics.{_≡_, true, some, _++_, ℕ, suc, _-_, _≤_, _<_, length, take, drop, getElem?, pos}
 use Rattle.rules.specs.Message.{Bytes}
 use Rattle.rules.specs.Session.{finalizing, Session, chunks, bytesOf}
-use Rattle.rules.specs.Opening.{Opening, opened, opens}
-use Rattle.rules.specs.Server.{Stored}
-use Rattle.rules.specs.Notes.{Mark}
-use Rattle.rules.specs.World.{World, Event, runs, ServerAt, start}
+use Rattle.rules.specs.Notes.{Mark, Notes}
+use Rattle.rules.specs.World.{World}
+use Rattle.rules.specs.Program.{AlwaysSteps}
 
 -- "of every waiter reported completed, the base and every byte taken before the call that made it are persisted"
 pub record Persisted (m : Mark) (w : World) : Type 0 where
@@ -32,11 +25,17 @@ pub record Replayed (w : World) : Type 0 where
   pub greeted : w .notes .greeted ≡ pos size
   pub carried : w .notes .carried ≡ drop size (take (length (w .notes .all) - w .notes .loose) (w .notes .all))
 
+-- "make a waiter, numbered 1, 2, ...": as many were made as were noted, and each was told its place + 1
+pub record Numbered (s : Session) (g : Notes) : Type 0 where
+  pub made-is : s .writer .made ≡ length (g .marks)
+  pub told : (i : ℕ) (m : Mark) → getElem? (g .marks) i ≡ some m → m .number ≡ suc i
+
 pub record Holds (w : World) : Type 0 where
   -- "the object is a beginning of its base and the bytes taken"
   pub begins : (rest : Bytes) × (w .server .stored .object ++ rest ≡ w .notes .all)
   -- the waiters reported completed were made
   pub counted : w .notes .completed ≤ length (w .notes .marks)
+  pub numbered : Numbered (w .session) (w .notes)
   pub waited : (i : ℕ) (m : Mark) → i < w .notes .completed → getElem? (w .notes .marks) i ≡ some m → Persisted m w
   pub kept : Kept w
   -- "A replay run to *done* has carried every chunked byte from the handshake's size on, once and in order."
@@ -45,11 +44,5 @@ pub record Holds (w : World) : Type 0 where
   pub finalised : (i : ℕ) (m : Mark) → i < w .notes .completed → getElem? (w .notes .marks) i ≡ some m → m .kind ≡ finalizing
       → w .server .stored .object ≡ w .notes .all
 
--- from an accepted opening, under the server rules at opening, after every list of events
-abbrev pub Always : (World → Type 0) → Type 0
-Always Q =
-    (o : Opening) (s : Session) → opens o ≡ opened s → (k : Stored) → ServerAt o k
-    → (es : List Event) → Q (runs es (start o s k))
-
 abbrev pub Demand3 : Type 0
-Demand3 = Always Holds
+Demand3 = AlwaysSteps (λ o k w. Holds w)

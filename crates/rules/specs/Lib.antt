@@ -15,9 +15,10 @@ pub mod Opening
 pub mod Server
 pub mod Notes
 pub mod World
+pub mod Program
 pub mod Demand3
 pub mod Beyond
+pub mod Calls
 pub mod Total
-pub mod Program
 pub mod Push
 pub mod Bench

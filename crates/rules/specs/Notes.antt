@@ -4,10 +4,11 @@ use Rattle.rules.specs.Message.{Bytes, ChecksummedData, Request, sizeOf}
 use Rattle.rules.specs.Session.{PendingKind, flushing, finalizing, Call, append, flush, finalise, nextRequest, close, sendFailed, response, handshake, break, judge, failedAttempt, Answer, refused, took, sends, waits, completes, attempt, ok, done, ends}
 use Rattle.rules.specs.Opening.{larger}
 
--- a waiter made: its kind, and the length of the base and the bytes taken before the call that made it
+-- a waiter made: its kind, the length of the base and the bytes taken before the call that made it, and the number that the answer told
 pub record Mark : Type 0 where
   pub kind : PendingKind
   pub before : ℕ
+  pub number : ℕ
 
 pub record Notes : Type 0 where
   pub limit : ℕ  -- C, as the opening had it
@@ -93,7 +94,7 @@ looseWith (some d) k g = let h = g .loose + length (taken d g) in cond (leb (g .
 abbrev pub marksWith : Option PendingKind → Option ℕ → Notes → List Mark
 marksWith none n g = g .marks
 marksWith (some k) none g = g .marks
-marksWith (some k) (some n) g = g .marks ++ (record { kind = k; before = length (g .all) } ∷ [])
+marksWith (some k) (some n) g = g .marks ++ (record { kind = k; before = length (g .all); number = n } ∷ [])
 
 abbrev pub largestOf : ℤ → Option ℤ → ℤ
 largestOf z = elim [ none ↦ z | some n ↦ larger z n ]

@@ -1,62 +1,25 @@
--- The claims on a program: a list of turns in which each call met a promise by equation with `step` at a view of what it was lent. What the program
--- answered and left is given, turn by turn, and the world is made from that, not from `step`.
-use mathlib.Core.Path.{_≡_}
-use mathlib.Core.Bool.{Bool, true, not, cond, _&&_}
-use mathlib.Core.Option.{Option, none, some}
-use mathlib.Core.List.{List, [], _∷_}
-use Rattle.rules.specs.Message.{Response}
-use Rattle.rules.specs.Session.{Session, Call, response, handshake, Answer, Result, answers}
+-- The claims: from an accepted opening, under the server rules at opening, after every list of turns. A turn is an event with what its call answered and
+-- left; the world is made from that, and of the call only its contract is known. The rules, the core and the host's calls have each their contract.
+use Rattle.rules.specs.Basics.{_≡_, none, some, List, [], _∷_}
+use Rattle.rules.specs.Session.{Session, Call, Answer, answers}
 use Rattle.rules.specs.Step.{step}
 use Rattle.rules.specs.Opening.{Opening, opened, opens}
-use Rattle.rules.specs.Server.{Stored, setMessages, says}
-use Rattle.rules.specs.Notes.{accepted}
-use Rattle.rules.specs.World.{World, Event, hostCalls, hostHands, hostSends, hostGreets, serverTakes, serverPersists, serverSays, linkCuts, after, onLine, unprompted, happens, ServerAt, start}
+use Rattle.rules.specs.Server.{Stored}
+use Rattle.rules.specs.World.{World, Event, callIn, withResult, ServerAt, start}
 
-abbrev pub handedCall : List Response → Option Call
-handedCall [] = none
-handedCall (m ∷ rest) = some (response m)
-
--- the call that an event makes
-abbrev pub callIn : Event → World → Option Call
-callIn (hostCalls c sent) w = cond (unprompted c) (some c) none
-callIn (hostHands sent keep) w = handedCall (w .server .link .messages)
-callIn (hostSends i) w = none
-callIn (hostGreets t handle) w = some (handshake (says (some t) handle (w .server .stored)))
-callIn (serverTakes bytes had) w = none
-callIn (serverPersists n) w = none
-callIn (serverSays t handle) w = none
-callIn (linkCuts bytes had) w = none
-
-abbrev pub handsWith : List Response → Bool → Bool → Result → World → World
-handsWith [] sent keep r w = w
-handsWith (m ∷ rest) sent keep r w =
-    after (response m) sent (onLine (setMessages (cond (keep && not (accepted (r .answer))) (m ∷ rest) rest)) w) r
-
--- the world after an event whose call, if it makes one, gave r
-abbrev pub withResult : Event → Result → World → World
-withResult (hostCalls c sent) r w = cond (unprompted c) (after c sent w r) w
-withResult (hostHands sent keep) r w = handsWith (w .server .link .messages) sent keep r w
-withResult (hostSends i) r w = happens (hostSends i) w
-withResult (hostGreets t handle) r w = after (handshake (says (some t) handle (w .server .stored))) true w r
-withResult (serverTakes bytes had) r w = happens (serverTakes bytes had) w
-withResult (serverPersists n) r w = happens (serverPersists n) w
-withResult (serverSays t handle) r w = happens (serverSays t handle) w
-withResult (linkCuts bytes had) r w = happens (linkCuts bytes had) w
-
--- S: the session record with the contents of the lent store and table. Valid: what an accepted opening gives and each call keeps
-module _ {S : Type 0} (Valid : S → Type 0) (view : S → Session) where
+-- S: what the calls are lent. Does c s a s′: what the contract of c says, from s to the answer a and s′
+module _ {S : Type 0} (view : S → Session) (Does : Call → S → Answer → S → Type 0) where
   pub record Turn : Type 0 where
     pub event : Event
     pub answer : Answer
     pub left : S
 
-  -- what the contracts give of a turn: its call's promise, and that nothing else touches the session
-  pub record Did (t : Turn) (s : S) (w : World) : Type 0 where
-    pub called : (c : Call) → callIn (t .event) w ≡ some c → Valid s → Valid (t .left) × (answers (t .answer) (view (t .left)) ≡ step c (view s))
+  pub record Did (t : Turn) (s : S) (w : World) : Type 0 where  -- its call did as its contract says, and nothing else touches the session
+    pub called : (c : Call) → callIn (t .event) w ≡ some c → Does c s (t .answer) (t .left)
     pub idle : callIn (t .event) w ≡ none → t .left ≡ s
 
   abbrev pub turned : Turn → World → World
-  turned t w = withResult (t .event) (answers (t .answer) (view (t .left))) w
+  turned t w = withResult (t .event) (λ _. answers (t .answer) (view (t .left))) w
 
   abbrev pub AllDid : List Turn → S → World → Type 0
   AllDid [] s w = Unit {0}
@@ -66,8 +29,19 @@ module _ {S : Type 0} (Valid : S → Type 0) (view : S → Session) where
   ran [] w = w
   ran (t ∷ ts) w = ran ts (turned t w)
 
-  -- Q holds after every list of such turns from an accepted opening
-  abbrev pub AlwaysDid : (World → Type 0) → Type 0
-  AlwaysDid Q =
-      (o : Opening) (s : S) → Valid s → opens o ≡ opened (view s) → (k : Stored) → ServerAt o k
-      → (ts : List Turn) → AllDid ts s (start o (view s) k) → Q (ran ts (start o (view s) k))
+  -- Q holds after every such list. Begins o s: what the contract of an accepted opening o says of what it left
+  abbrev pub Always : (Opening → S → Type 0) → (Opening → Stored → World → Type 0) → Type 0
+  Always Begins Q =
+      (o : Opening) (s : S) → Begins o s → (k : Stored) → ServerAt o k
+      → (ts : List Turn) → AllDid ts s (start o (view s) k) → Q o k (ran ts (start o (view s) k))
+
+-- ---- the rules: each call gives what `step` gives
+
+abbrev pub itself : Session → Session
+itself s = s
+
+abbrev pub Steps : Call → Session → Answer → Session → Type 0
+Steps c s a s′ = answers a s′ ≡ step c s
+
+abbrev pub AlwaysSteps : (Opening → Stored → World → Type 0) → Type 0
+AlwaysSteps Q = Always itself Steps (λ o s. opens o ≡ opened s) Q

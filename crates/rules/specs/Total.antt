@@ -1,16 +1,10 @@
 -- The byte total of document 01, and the bound on stored bytes.
-use mathlib.Core.Path.{_≡_}
-use mathlib.Core.Option.{Option, none, some}
-use mathlib.Core.List.{List, [], _∷_}
-use Prim.Native.Nat.{ℕ, _+_, _-_, _≤_, min}
-use lib.ListN.{length}
-use lib.IntN.{pos}
+use Rattle.rules.specs.Basics.{_≡_, Option, none, some, ℕ, _+_, _-_, _≤_, min, length, pos}
 use Rattle.rules.specs.Message.{Bytes}
-use Rattle.rules.specs.Session.{Session, Call, stored}
-use Rattle.rules.specs.Step.{step}
-use Rattle.rules.specs.Opening.{Opening, opened, opens}
-use Rattle.rules.specs.Server.{Stored}
-use Rattle.rules.specs.World.{World, Event, runs, ServerAt, start}
+use Rattle.rules.specs.Session.{stored}
+use Rattle.rules.specs.World.{World}
+use Rattle.rules.specs.Program.{AlwaysSteps}
+use Rattle.rules.specs.Calls.{AlwaysSince}
 
 -- the offset of the first byte taken since opening, "payload counted as taken"
 abbrev pub firstTaken : Option Bytes → Bytes → ℕ
@@ -24,17 +18,8 @@ pub record Total (from : ℕ) (w : World) : Type 0 where
   pub total : length (w .notes .all) - from ≡ (min size (length (w .notes .all)) - from) + stored (w .session) + length (w .session .writer .held)
 
 abbrev pub ByteTotal : Type 0
-ByteTotal =
-    (o : Opening) (s : Session) → opens o ≡ opened s → (k : Stored) → ServerAt o k
-    → (es : List Event) → Total (firstTaken (o .payload) (k .object)) (runs es (start o s k))
-
--- the session after a list of calls, whatever they bring
-unfoldable pub afterCalls : List Call → Session → Session
-afterCalls [] s = s
-afterCalls (c ∷ cs) s = afterCalls cs ((step c s) .session)
+ByteTotal = AlwaysSteps (λ o k w. Total (firstTaken (o .payload) (k .object)) w)
 
 -- "For any input stored never exceeds capacity + C − 1."
 abbrev pub StoredBound : Type 0
-StoredBound =
-    (o : Opening) (s : Session) → opens o ≡ opened s → (cs : List Call)
-    → stored (afterCalls cs s) ≤ s .worker .replayBuffer .capacity + s .limit - 1
+StoredBound = AlwaysSince (λ b r. stored (r .session) ≤ b .session .worker .replayBuffer .capacity + b .session .limit - 1)

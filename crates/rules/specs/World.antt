@@ -27,9 +27,6 @@ onAnswer b sent a v =
 abbrev pub after : Call → Bool → World → Result → World  -- the world after the session gave r to the call c
 after c sent w r = record { session = r .session; server = onAnswer (brings c) sent (r .answer) (w .server); notes = note c (r .answer) (w .notes) }
 
-abbrev pub calls : Call → Bool → World → World
-calls c sent w = after c sent w (step c (w .session))
-
 abbrev pub onServer : (Server → Server) → World → World
 onServer f w = record { session = w .session; server = f (w .server); notes = w .notes }
 
@@ -39,13 +36,6 @@ onLine f w = onServer (onLink f) w
 -- The host may send a request that it was handed later, or again. It then goes out of its turn, and the server may cut the connection for it.
 abbrev pub resends : Option Request → Link → Link
 resends o l = elim o [ none ↦ l | some r ↦ loses (carries r l) ]
-
--- the host hands on the next message, if there is one; one that was refused it may keep, to hand it on again
-abbrev pub handsOn : List Response → Bool → Bool → World → World
-handsOn [] sent keep w = w
-handsOn (m ∷ rest) sent keep w =
-    let r = step (response m) (w .session) in
-    after (response m) sent (onLine (setMessages (cond (keep && not (accepted (r .answer))) (m ∷ rest) rest)) w) r
 
 -- ---- events
 
@@ -66,15 +56,41 @@ pub data Event : Type 0 where
 abbrev pub unprompted : Call → Bool
 unprompted c = not ((brings c) .message)
 
+abbrev pub handedCall : List Response → Option Call
+handedCall [] = none
+handedCall (m ∷ rest) = some (response m)
+
+abbrev pub callIn : Event → World → Option Call  -- the call that an event makes
+callIn (hostCalls c sent) w = cond (unprompted c) (some c) none
+callIn (hostHands sent keep) w = handedCall (w .server .link .messages)
+callIn (hostSends i) w = none
+callIn (hostGreets t handle) w = some (handshake (says (some t) handle (w .server .stored)))
+callIn (serverTakes bytes had) w = none
+callIn (serverPersists n) w = none
+callIn (serverSays t handle) w = none
+callIn (linkCuts bytes had) w = none
+
+-- the host hands on the next message, if there is one; one that was refused it may keep, to hand it on again
+abbrev pub handsOn : List Response → Bool → Bool → (Call → Result) → World → World
+handsOn [] sent keep gives w = w
+handsOn (m ∷ rest) sent keep gives w =
+    let r = gives (response m) in
+    after (response m) sent (onLine (setMessages (cond (keep && not (accepted (r .answer))) (m ∷ rest) rest)) w) r
+
+-- the world after an event: `gives` is what the session gives to the call that it makes, if it makes one
+abbrev pub withResult : Event → (Call → Result) → World → World
+withResult (hostCalls c sent) gives w = cond (unprompted c) (after c sent w (gives c)) w
+withResult (hostHands sent keep) gives w = handsOn (w .server .link .messages) sent keep gives w
+withResult (hostSends i) gives w = onLine (resends (getElem? (w .notes .handed) i)) w
+withResult (hostGreets t handle) gives w = let c = handshake (says (some t) handle (w .server .stored)) in after c true w (gives c)
+withResult (serverTakes bytes had) gives w = onServer (takesNext (w .server .link .requests) bytes had) w
+withResult (serverPersists n) gives w = onServer (onStored (persists n)) w
+withResult (serverSays t handle) gives w =
+    cond (w .server .link .alive) (onLine (setMessages (w .server .link .messages ++ (says t handle (w .server .stored) ∷ []))) w) w
+withResult (linkCuts bytes had) gives w = onServer (λ v. onLink loses (cutOff bytes had v)) w
+
 unfoldable pub happens : Event → World → World
-happens (hostCalls c sent) w = cond (unprompted c) (calls c sent w) w
-happens (hostHands sent keep) w = handsOn (w .server .link .messages) sent keep w
-happens (hostSends i) w = onLine (resends (getElem? (w .notes .handed) i)) w
-happens (hostGreets t handle) w = calls (handshake (says (some t) handle (w .server .stored))) true w
-happens (serverTakes bytes had) w = onServer (takesNext (w .server .link .requests) bytes had) w
-happens (serverPersists n) w = onServer (onStored (persists n)) w
-happens (serverSays t handle) w = cond (w .server .link .alive) (onLine (setMessages (w .server .link .messages ++ (says t handle (w .server .stored) ∷ []))) w) w
-happens (linkCuts bytes had) w = onServer (λ v. onLink loses (cutOff bytes had v)) w
+happens e w = withResult e (λ c. step c (w .session)) w
 
 unfoldable pub runs : List Event → World → World
 runs [] w = w
@@ -90,20 +106,23 @@ pub record ServerAt (o : Opening) (k : Stored) : Type 0 where
   pub together : k .object ++ k .tail ≡ baseOf (o .payload) (k .object)
   pub summed : o .payload ≡ none → (sum : ℕ) → o .checksum ≡ some sum → sum ≡ crcOf (k .object)
 
+abbrev pub notesAt : Opening → Bytes → Notes  -- the notes at an accepted opening, with the base
+notesAt o base = record {
+  limit = o .limit;
+  all = base;
+  loose = 0;
+  largest = openSize o;
+  marks = [];
+  completed = 0;
+  handed = [];
+  greeted = openSize o;
+  carried = [];
+  atDone = false;
+}
+
 unfoldable pub start : Opening → Session → Stored → World
 start o s k = record {
   session = s;
   server = record { stored = k; link = record { requests = []; messages = []; alive = true; lossless = true } };
-  notes = record {
-    limit = o .limit;
-    all = baseOf (o .payload) (k .object);
-    loose = 0;
-    largest = openSize o;
-    marks = [];
-    completed = 0;
-    handed = [];
-    greeted = openSize o;
-    carried = [];
-    atDone = false;
-  };
+  notes = notesAt o (baseOf (o .payload) (k .object));
 }

@@ -1,90 +1,88 @@
--- Demand 3, what is stated beyond it, the byte total and the bound on stored bytes, for an opening and any list of turns of the host's calls of which only
--- what their `ensures` say is known.
+-- The claims for an opening and any list of turns of the host's calls of which only what their `ensures` say is known.
 -- Assumes nothing.
-use mathlib.Core.Path.{_≡_, sym, subst}
-use mathlib.Core.List.{List, [], _∷_}
+use mathlib.Core.Path.{_≡_, sym, ap, _∙_, subst}
+use mathlib.Core.List.{List}
 use Prim.Native.Nat.{ℕ}
 use Rattle.rules.specs.Message.{Bytes}
 use Rattle.rules.specs.Session as R
-use Rattle.rules.specs.Opening.{opened, opens}
-use Rattle.rules.specs.World.{World}
+use Rattle.rules.specs.Step.{step}
+use Rattle.rules.specs.Opening as O
 use Rattle.rules.specs.Demand3.{Holds}
 use Rattle.rules.specs.Beyond.{HoldsBeyond}
 use Rattle.rules.specs.Total as total
+use Rattle.rules.specs.Calls.{HoldsCalled}
+use Rattle.rules.proofs.Program as rules
 use Rattle.transport.specs.View.{view}
 use Rattle.transport.specs.Valid.{Valid}
-use Rattle.transport.specs.Promise.{Promise, Promised}
-use Rattle.transport.specs.Claim as core
-use Rattle.transport.specs.Claim.{Memory, Turn, left, turned, Called, leftBy}
+use Rattle.transport.specs.Promise.{Promise, Promised, PromisedAt}
+use Rattle.transport.specs.Claim.{Memory, viewOf, ValidAt, Does}
+use Rattle.transport.specs.declared.Session.{Session}
 use Rattle.transport.specs.declared.Outcome.{Outcome}
-use Rattle.transport.proofs.Claim as program
+use Rattle.transport.proofs.Claim.{bound-of}
 use Rattle.openings.proofs.Openings.{accepted-is}
-use Rattle.session.specs.Claim.{Unlent, Ensures, AllDid, Begun, Begins, given, first, Always, AllCalled, StoredBound}
+use Rattle.session.specs.Claim.{Ensures, Begins, Always, AlwaysCalled, StoredBound}
 
 -- a promise at memory that is the same
 module _ (c : R.Call) (m : Memory) (r : Outcome) where
   abbrev At : Bytes → Bytes → List ℕ → Bytes → Type 0
   At out store table out′ = Promise c (m .session) (m .store) (m .table) out r store table out′
 
-  at-store : {out store store′ : Bytes} {table : List ℕ} {out′ : Bytes} → store ≡ store′ → At out store′ table out′ → At out store table out′
-  at-store {out} {store} {store′} {table} {out′} e = subst (λ (x : Bytes). At out x table out′) (sym e)
+  at-store : {out store : Bytes} {table : List ℕ} {out′ : Bytes} → store ≡ m .store → At out (m .store) table out′ → At out store table out′
+  at-store {out} {table} {out′} e = subst (λ (x : Bytes). At out x table out′) (sym e)
 
-  at-table : {out store : Bytes} {table table′ : List ℕ} {out′ : Bytes} → table ≡ table′ → At out store table′ out′ → At out store table out′
-  at-table {out} {store} {table} {table′} {out′} e = subst (λ (x : List ℕ). At out store x out′) (sym e)
+  at-table : {out store : Bytes} {table : List ℕ} {out′ : Bytes} → table ≡ m .table → At out store (m .table) out′ → At out store table out′
+  at-table {out} {store} {out′} e = subst (λ (x : List ℕ). At out store x out′) (sym e)
 
   at-out : {out store : Bytes} {table : List ℕ} {out′ : Bytes} → out′ ≡ out → At out store table out → At out store table out′
-  at-out {out} {store} {table} {out′} e = subst (λ (x : Bytes). At out store table x) (sym e)
+  at-out {out} {store} {table} e = subst (λ (x : Bytes). At out store table x) (sym e)
 
-  unlent : {out store : Bytes} {table : List ℕ} {out′ : Bytes} → Unlent m out store table out′ → Promised c (m .session) r → At out store table out′
-  unlent {out} u p = at-store (u .0) (at-table (u .1) (at-out (u .2) (p (m .store) (m .table) out)))
+  at-any : {out store : Bytes} {table : List ℕ} {out′ : Bytes} → (store ≡ m .store) × (table ≡ m .table) × (out′ ≡ out) → Promised c (m .session) r → At out store table out′
+  at-any {out} u p = at-store (u .0) (at-table (u .1) (at-out (u .2) (p (m .store) (m .table) out)))
+
+  at-some : {out store : Bytes} {table : List ℕ} {out′ : Bytes} → (store ≡ m .store) × (out′ ≡ out) → PromisedAt c (m .session) (m .store) (m .table) r table → At out store table out′
+  at-some {out} u p = at-store (u .0) (at-out (u .1) (p out))
 
 -- what each `ensures` says is the promise that the claims about the core ask for
 promised : (c : R.Call) (m : Memory) (out : Bytes) (r : Outcome) (store : Bytes) (table : List ℕ) (out′ : Bytes)
     → Ensures c m out r store table out′ → Promise c (m .session) (m .store) (m .table) out r store table out′
-promised (R.append d n) m out r store table out′ e = subst (λ (k : ℕ). At (R.append d k) m r out store table out′) (sym (e .0)) (e .1)
-promised (R.flush n) m out r store table out′ e =
-    at-store (R.flush n) m r (e .1) (subst (λ (k : ℕ). At (R.flush k) m r out (m .store) table out′) (sym (e .0)) (e .2))
-promised (R.finalise n) m out r store table out′ e =
-    at-store (R.finalise n) m r (e .1) (subst (λ (k : ℕ). At (R.finalise k) m r out (m .store) table out′) (sym (e .0)) (e .2))
+promised (R.append d n) m out r store table out′ e = e .0
+promised (R.flush n) m out r store table out′ e = at-store (R.flush n) m r (e .1 .1) (e .0)
+promised (R.finalise n) m out r store table out′ e = at-store (R.finalise n) m r (e .1 .1) (e .0)
 promised (R.nextRequest n) m out r store table out′ e =
-    at-store (R.nextRequest n) m r (e .1) (at-table (R.nextRequest n) m r (e .2)
-    (subst (λ (k : ℕ). At (R.nextRequest k) m r out (m .store) (m .table) out′) (sym (e .0)) (e .3)))
-promised R.close m out r store table out′ e = unlent R.close m r (e .0) (e .1)
-promised R.sendFailed m out r store table out′ e = unlent R.sendFailed m r (e .0) (e .1)
-promised (R.response x) m out r store table out′ e = at-store (R.response x) m r (e .0) (at-out (R.response x) m r (e .1) (e .2 out))
-promised (R.handshake x) m out r store table out′ e = at-store (R.handshake x) m r (e .0) (at-out (R.handshake x) m r (e .1) (e .2 out))
-promised (R.break b) m out r store table out′ e = unlent (R.break b) m r (e .0) (e .1)
-promised (R.judge v) m out r store table out′ e = unlent (R.judge v) m r (e .0) (e .1)
-promised (R.failedAttempt b v) m out r store table out′ e = unlent (R.failedAttempt b v) m r (e .0) (e .1)
+    at-store (R.nextRequest n) m r (e .1 .1) (at-table (R.nextRequest n) m r (e .1 .2) (e .0))
+promised R.close m out r store table out′ e = at-any R.close m r (e .1) (e .0)
+promised R.sendFailed m out r store table out′ e = at-any R.sendFailed m r (e .1) (e .0)
+promised (R.response x) m out r store table out′ e = at-some (R.response x) m r (e .1) (e .0)
+promised (R.handshake x) m out r store table out′ e = at-some (R.handshake x) m r (e .1) (e .0)
+promised (R.break b) m out r store table out′ e = at-any (R.break b) m r (e .1) (e .0)
+promised (R.judge v) m out r store table out′ e = at-any (R.judge v) m r (e .1) (e .0)
+promised (R.failedAttempt b v) m out r store table out′ e = at-any (R.failedAttempt b v) m r (e .1) (e .0)
 
-all-did : (ts : List Turn) (m : Memory) (w : World) → AllDid ts m w → core.AllDid ts m w
-all-did [] m w d = tt
-all-did (t ∷ ts) m w d = (
-  record { called = λ c e. promised c m (t .out) (t .outcome) (t .store) (t .table) (t .out′) (d .0 .called c e); idle = d .0 .idle },
-  all-did ts (left t) (turned t w) (d .1),
+keeps : (c : R.Call) (m : Memory) (a : R.Answer) (m′ : Memory) → Does Ensures c m a m′ → ValidAt m
+    → ValidAt m′ × (R.answers a (viewOf m′) ≡ step c (viewOf m))
+keeps c m a m′ d p =
+    let k : Promise c (m .session) (m .store) (m .table) (d .out) (record { session = m′ .session; answer = d .answer }) (m′ .store) (m′ .table) (d .out′)
+    = promised c m (d .out) _ (m′ .store) (m′ .table) (d .out′) (d .says) in
+    (k .stays p, ap (λ (x : R.Answer). R.answers x (viewOf m′)) (sym (d .answer-is)) ∙ k .steps p)
+
+begun : (o : O.Opening) (m : Memory) → Begins o m → ValidAt m × (O.opens o ≡ O.opened (viewOf m))
+begun o m b = (
+  subst (λ (s : Session). Valid s (m .store) (m .table)) (b .left) (b .ensured .valid (b .accepted)),
+  subst (λ (x : O.Opening). O.opens x ≡ O.opened (viewOf m)) (b .given)
+      (accepted-is (b .ensured) (b .accepted) ∙ ap (λ (s : Session). O.opened (view s (m .store) (m .table))) (b .left)),
 )
 
-all-called : (ts : List Called) (m : Memory) → AllCalled ts m → core.AllCalled ts m
-all-called [] m d = tt
-all-called (t ∷ ts) m d = (promised (t .call) m (t .out) (t .outcome) (t .store) (t .table) (t .out′) (d .0), all-called ts (leftBy t) (d .1))
+pub host-demand3 : Always (λ o k w. Holds w)
+host-demand3 = rules.program-demand3 viewOf (Does Ensures) Begins ValidAt keeps begun
 
-valid : (b : Begun) → Begins b → Valid (b .opened .session) (b .store′) (b .table′)
-valid b g = g .promise .valid (g .accepted)
+pub host-beyond-demand3 : Always (λ o k w. HoldsBeyond w)
+host-beyond-demand3 = rules.program-beyond viewOf (Does Ensures) Begins ValidAt keeps begun
 
-opens-is : (b : Begun) → Begins b → opens (given b) ≡ opened (view (b .opened .session) (b .store′) (b .table′))
-opens-is b g = accepted-is (g .promise) (g .accepted)
+pub host-byte-total : Always (λ o k w. total.Total (total.firstTaken (o .payload) (k .object)) w)
+host-byte-total = rules.program-byte-total viewOf (Does Ensures) Begins ValidAt keeps begun
 
-pub host-demand3 : Always (λ o object w. Holds w)
-host-demand3 b g k v ts d =
-    program.program-demand3 (given b) (first b) (valid b g) (opens-is b g) k v ts (all-did ts _ _ d)
-
-pub host-beyond-demand3 : Always (λ o object w. HoldsBeyond w)
-host-beyond-demand3 b g k v ts d =
-    program.program-beyond-demand3 (given b) (first b) (valid b g) (opens-is b g) k v ts (all-did ts _ _ d)
-
-pub host-byte-total : Always (λ o object w. total.Total (total.firstTaken (o .payload) object) w)
-host-byte-total b g k v ts d =
-    program.program-byte-total (given b) (first b) (valid b g) (opens-is b g) k v ts (all-did ts _ _ d)
+pub host-calls-hold : AlwaysCalled (λ _ r. HoldsCalled r)
+host-calls-hold = rules.program-calls-hold viewOf (Does Ensures) Begins ValidAt keeps begun
 
 pub host-stored-bound : StoredBound
-host-stored-bound b g ts d = program.program-stored-bound (given b) (first b) (valid b g) (opens-is b g) ts (all-called ts _ d)
+host-stored-bound = bound-of (Does Ensures) Begins keeps begun

@@ -9,8 +9,8 @@ use Rattle.rules.specs.Replay.{handsWaiter, handsChunk, hands, unsent}
 use Rattle.rules.specs.Step.{step}
 use Rattle.rules.specs.Opening.{goodBucket, tooLong, openSession, first, opens}
 use Rattle.rules.specs.World.{happens, runs, start}
-use Rattle.rules.specs.Total.{afterCalls}
+use Rattle.rules.specs.Calls.{calledAll, begin}
 
 unfoldable pub computed : Unit {0}
-unfolding R.step R.steps R.feed R.reg R.crcOf R.zeros R.joined handleResponse handleRedirect stored full watermark closed noSlot noWaiter pastEnd shortOut complete choose unless ending holds appends asks closes ack isSatisfied satisfied takes lastStep responds toReplay shakes breaks ruled judges fails handsWaiter handsChunk hands unsent step goodBucket tooLong openSession first opens happens runs start afterCalls
+unfolding R.step R.steps R.feed R.reg R.crcOf R.zeros R.joined handleResponse handleRedirect stored full watermark closed noSlot noWaiter pastEnd shortOut complete choose unless ending holds appends asks closes ack isSatisfied satisfied takes lastStep responds toReplay shakes breaks ruled judges fails handsWaiter handsChunk hands unsent step goodBucket tooLong openSession first opens happens runs start calledAll begin
 computed = tt

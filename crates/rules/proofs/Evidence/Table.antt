@@ -1,14 +1,13 @@
 -- Tables of what the rules give and what document 01 says, and what their rows look at. Met by computing: `unfolding computed`.
 use mathlib.Core.Path.{_≡_}
 use mathlib.Core.Option.{Option, none, some}
-use mathlib.Core.List.{List}
+use mathlib.Core.List.{List, [], _∷_}
 use Prim.Native.Nat.{ℕ}
 use lib.IntN.{pos}
 use Rattle.rules.specs.Message.{Break, status}
 use Rattle.rules.specs.Session.{Session, Call, Answer}
 use Rattle.rules.specs.Step.{step}
 use Rattle.rules.specs.Opening.{Opened, turnedAway, opened, opens}
-use Rattle.rules.specs.Total.{afterCalls}
 use Rattle.rules.specs.Bench.{opening}
 
 -- a row's number, what the rules give, what document 01 says
@@ -23,6 +22,11 @@ row n {A} given stated = record { label = n; kind = A; given = given; stated = s
 
 abbrev pub Met : Row → Type 0
 Met r = r .given ≡ r .stated
+
+-- the session after the calls
+abbrev pub afterCalls : List Call → Session → Session
+afterCalls [] s = s
+afterCalls (c ∷ cs) s = afterCalls cs ((step c s) .session)
 
 -- what is seen of the session after the calls; none where the opening is refused
 abbrev pub after : {A : Type 0} → Opened → List Call → (Session → A) → Option A
