@@ -1,3 +1,4 @@
 pub mod Lent
 pub mod Shows
 pub mod Claim
+pub mod Tied
