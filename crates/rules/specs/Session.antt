@@ -102,14 +102,9 @@ answers a s = record { answer = a; session = s }
 -- ---- parts set anew: all that a call may change, in the order of the record
 
 abbrev pub working : Connector → List ReplayChunk → List PendingRequest → ℤ → Bool → Bool → Worker → Worker
-working c q ps p f m w = record {
-  connector = c;
-  replayBuffer = record { queue = q; capacity = w .replayBuffer .capacity };
-  pendingRequests = ps;
-  persistedSize = p;
-  finalized = f;
-  selfFlushOutstanding = m;
-}
+working c q ps p f m w =
+    let b : ReplayBuffer = record { queue = q; capacity = w .replayBuffer .capacity } in
+    record { connector = c; replayBuffer = b; pendingRequests = ps; persistedSize = p; finalized = f; selfFlushOutstanding = m }
 
 abbrev pub setConnector : Connector → Worker → Worker
 setConnector c w = working c (w .replayBuffer .queue) (w .pendingRequests) (w .persistedSize) (w .finalized) (w .selfFlushOutstanding) w

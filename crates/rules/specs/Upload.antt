@@ -1,7 +1,7 @@
 -- "Calls while live": append, flush, finalise, close (transport.rs, coalescing_buffer.rs, `process_intent` of worker.rs).
 use Rattle.rules.specs.Basics.{Bool, true, false, not, cond, _&&_, _||_, Option, none, some, [], _∷_, _++_, ℕ, suc, _-_, min, length, take, leb, ℤ, pos, _+ℤ_}
 use Rattle.crc32c.specs.Reg.{crcOf, joined}
-use Rattle.rules.specs.Message.{Bytes, Request}
+use Rattle.rules.specs.Message.{Bytes, ChecksummedData, Request}
 use Rattle.rules.specs.Session.{ReplayChunk, PendingKind, flushing, finalizing, PendingRequest, Worker, closing, nothing, aRequest, Session, took, sends, waits, ok, Result, answers, working, setMark, setPending, going, setWorker, setPhase, isNil, isLive, isEnded, waiters, full, watermark, closed, noSlot, noWaiter, pastEnd, shortOut, choose, Rows, checks, unless}
 
 abbrev pub chunkOf : Bytes → Session → ReplayChunk  -- the bytes b as a chunk at the write offset
@@ -9,14 +9,9 @@ chunkOf b s = record { writeOffset = s .writer .writeOffset; bytes = b; crc32c =
 
 -- "A chunk request has offset, bytes, CRC32C"; under the watermark it "also sets flush and state lookup"
 abbrev pub chunkRequest : ReplayChunk → Bool → Request
-chunkRequest c flushes = record {
-  writeOffset = c .writeOffset;
-  checksummedData = some (record { content = c .bytes; crc32c = c .crc32c });
-  objectChecksum = none;
-  stateLookup = flushes;
-  flush = flushes;
-  finishWrite = false;
-}
+chunkRequest c flushes =
+    let d : ChecksummedData = record { content = c .bytes; crc32c = c .crc32c } in
+    record { writeOffset = c .writeOffset; checksummedData = some d; objectChecksum = none; stateLookup = flushes; flush = flushes; finishWrite = false }
 
 abbrev pub pushed : ReplayChunk → Worker → Worker
 pushed c w =
