@@ -87,13 +87,13 @@ pub fn u64_of(low: u32, high: u32) -> u64
 }
 
 // The upper half of the 64-bit numbers stands for those below zero.
-pub fn i64_of(n: u64) -> Offset
-    ensures { λ r. ⌜ r .0 ≡ toZ w64 n ⌝ }
+pub fn i64_of(n: u64) -> i64
+    ensures { λ r. ⌜ r ≡ toZ w64 n ⌝ }
 {
     if n < 0x8000_0000_0000_0000 {
-        return Offset(n as i64);
+        return n as i64;
     }
-    Offset(-1 - (0xFFFF_FFFF_FFFF_FFFF - n) as i64)
+    -1 - (0xFFFF_FFFF_FFFF_FFFF - n) as i64
 }
 
 fn u16_at(b: &[u8], at: usize) -> u16
@@ -117,11 +117,11 @@ fn u64_at(b: &[u8], at: usize) -> u64
     u64_of(u32_at(b, at), u32_at(b, at + 4))
 }
 
-fn i64_at(b: &[u8], at: usize) -> Offset
+fn size_at(b: &[u8], at: usize) -> Offset
     requires { ⌜ at + 8 ≤ length (now b) ⌝ }
     ensures { λ r. ⌜ r .0 ≡ toZ w64 (little (take 8 (drop at (now (b .entry))))) ⌝ }
 {
-    i64_of(u64_at(b, at))
+    Offset(i64_of(u64_at(b, at)))
 }
 
 // What follows the mark of an opening.
@@ -134,7 +134,7 @@ fn read_open(input: &[u8]) -> Reading
     }
     let c = u16_at(input, 2);
     let capacity = u32_at(input, 4);
-    let p = i64_at(input, 8);
+    let p = size_at(input, 8);
     Reading::Whole(Record::Open(c as usize, capacity as usize, p), 16)
 }
 
@@ -171,14 +171,14 @@ pub fn read(input: &[u8]) -> Reading
             if input.len() < 10 {
                 return Reading::Cut;
             }
-            let size = i64_at(input, 2);
+            let size = size_at(input, 2);
             Reading::Whole(Record::Call(CallRecord::Response(size)), 10)
         }
         HS => {
             if input.len() < 10 {
                 return Reading::Cut;
             }
-            let size = i64_at(input, 2);
+            let size = size_at(input, 2);
             Reading::Whole(Record::Call(CallRecord::Handshake(size)), 10)
         }
         BR => Reading::Whole(Record::Call(CallRecord::Break), 2),

@@ -7,6 +7,7 @@ use lib.IntN.{ℤ}
 use Rattle.rules.specs.Message as M
 use Rattle.rules.specs.Session as S
 use Rattle.bidi_write.specs.declared.Generation.{Generation}
+use Rattle.bidi_write.specs.declared.Metageneration.{Metageneration}
 use Rattle.bidi_write.specs.declared.Checksum.{Checksum}
 use Rattle.bidi_write.specs.declared.Checksum.the-variants as checksum
 use Rattle.bidi_write.specs.declared.ChecksummedData.{ChecksummedData}
@@ -33,6 +34,9 @@ use Rattle.bidi_write.specs.declared.Size.the-variants as size
 
 abbrev pub generationOf : Generation → M.Generation
 generationOf g = record { number = g .0 }
+
+abbrev pub metagenerationOf : Metageneration → M.Metageneration
+metagenerationOf g = record { number = g .0 }
 
 abbrev pub checksumOf : Checksum → Option ℕ
 checksumOf checksum.Unknown = none

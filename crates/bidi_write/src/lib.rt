@@ -3,10 +3,10 @@
 // what a call brings in slices.
 ghost use mathlib.Core.Path.{_≡_};
 ghost use mathlib.Core.Bool.{_&&_, _||_};
-ghost use Prim.Native.Nat.{_<_, _^_};
-ghost use lib.IntN.{pos};
+ghost use Prim.Native.Nat.{_+_, _<_, _≤_, _^_};
+ghost use lib.IntN.{pos, _+ℤ_, _-ℤ_};
 ghost use lib.Signed.{ltZ};
-ghost use Rattle.bidi_write.specs.Numbers.{toℕ};
+ghost use Rattle.bidi_write.specs.Numbers.{toℕ, Differs};
 ghost use Rattle.bidi_write.specs.Refusal.{numberOf, rowed};
 ghost use Rattle.bidi_write.specs.View.{sizeOf, statusOf};
 ghost use Rattle.rules.specs.Message.{isFinalized};
@@ -23,8 +23,17 @@ pub const DEFAULT_CAPACITY: usize = 32 * 1024 * 1024;
 // An offset in the object, or a size of it.
 pub struct Offset(pub i64);
 
+// The difference of two offsets, which takes 65 bits: how far the first is below the second, or how far it is not.
+pub enum Difference {
+    Below(u64),
+    AtLeast(u64),
+}
+
 // A generation of the object.
 pub struct Generation(pub i64);
+
+// A metageneration of the object, which counts the changes of its metadata.
+pub struct Metageneration(pub i64);
 
 // A CRC32C, where it is known.
 pub enum Checksum {
@@ -193,6 +202,47 @@ pub fn is_negative(a: Offset) -> bool
 {
     let x = a.0;
     x < 0
+}
+
+// The offset in the order of the unsigned numbers: -2^63 is 0.
+fn raised(a: Offset) -> u64
+    ensures { λ r. ⌜ pos r ≡ a .0 +ℤ pos (2 ^ 63) ⌝ }
+{
+    let x = a.0;
+    if x < 0 {
+        return (x - i64::MIN) as u64;
+    }
+    x as u64 + 0x8000_0000_0000_0000
+}
+
+// a - b, for any two.
+pub fn subtract(a: Offset, b: Offset) -> Difference
+    ensures { λ r. ⌜ Differs (a .0) (b .0) r ⌝ }
+{
+    let x = raised(a);
+    let y = raised(b);
+    if x < y {
+        return Difference::Below(y - x);
+    }
+    Difference::AtLeast(x - y)
+}
+
+// The offset n bytes further on.
+pub fn plus(a: Offset, n: usize) -> Offset
+    requires { ⌜ toℕ (a .0) + n < 2 ^ 63 ⌝ }
+    ensures { λ r. ⌜ r .0 ≡ a .0 +ℤ pos n ⌝ }
+{
+    let x = a.0;
+    Offset(x + n as i64)
+}
+
+// The offset n bytes before.
+pub fn minus(a: Offset, n: usize) -> Offset
+    requires { ⌜ n ≤ toℕ (a .0) ⌝ }
+    ensures { λ r. ⌜ r .0 ≡ a .0 -ℤ pos n ⌝ }
+{
+    let x = a.0;
+    Offset(x - n as i64)
 }
 
 // The number, and 0 for one below 0.

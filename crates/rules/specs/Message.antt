@@ -9,6 +9,10 @@ Bytes = List ℕ
 pub record Generation : Type 0 where
   pub number : ℤ
 
+-- a metageneration is neither
+pub record Metageneration : Type 0 where
+  pub number : ℤ
+
 -- the data of a request, with its CRC32C
 pub record ChecksummedData : Type 0 where
   pub content : Bytes

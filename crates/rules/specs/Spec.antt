@@ -1,13 +1,13 @@
 -- AppendObjectSpecState: what a reconnect dials with, in its two forms, and how responses and redirects update it (state.rs).
 -- The opening dial's own fields (access list, generation conditions, object size, initial chunk) are left out with that dial.
-use Rattle.rules.specs.Basics.{Option, none, some, Option·getD, ℤ, pos}
-use Rattle.rules.specs.Message.{Bytes, Generation, Response, Redirect, generationOf}
+use Rattle.rules.specs.Basics.{Option, none, some, Option·getD, pos}
+use Rattle.rules.specs.Message.{Bytes, Generation, Metageneration, Response, Redirect, generationOf}
 
 pub record WriteObjectSpec : Type 0 where
   pub bucket : Bytes
   pub object : Bytes
-  pub ifMetagenerationMatch : Option ℤ
-  pub ifMetagenerationNotMatch : Option ℤ
+  pub ifMetagenerationMatch : Option Metageneration
+  pub ifMetagenerationNotMatch : Option Metageneration
 
 pub record AppendObjectSpec : Type 0 where
   pub bucket : Bytes
@@ -15,8 +15,8 @@ pub record AppendObjectSpec : Type 0 where
   pub generation : Generation
   pub writeHandle : Option Bytes
   pub routingToken : Option Bytes
-  pub ifMetagenerationMatch : Option ℤ
-  pub ifMetagenerationNotMatch : Option ℤ
+  pub ifMetagenerationMatch : Option Metageneration
+  pub ifMetagenerationNotMatch : Option Metageneration
 
 -- the Write form, with its routing token, creates an object; the Append form takes one over
 pub data AppendObjectSpecState : Type 0 where

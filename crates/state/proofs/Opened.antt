@@ -3,7 +3,6 @@ use mathlib.Core.Path.{_≡_, refl, ap, _∙_}
 use mathlib.Core.Bool.{Bool, true, false, _&&_}
 use mathlib.Core.Option.{Option}
 use lib.ListN.{take}
-use lib.IntN.{ℤ}
 use Rattle.rules.specs.Message as M
 use Rattle.bidi_write.specs.View.{generationOf, given}
 use Rattle.state.specs.View.{handleOf, tokenOf, conditionOf, specOf, formOf, opened}
@@ -18,12 +17,12 @@ form-opened true a = refl
 form-opened false a = refl
 
 -- a Write form has no handle
-no-handle : (append present : Bool) (s : M.Bytes) (b o : M.Bytes) (g : M.Generation) (t : Option M.Bytes) (c d : Option ℤ)
+no-handle : (append present : Bool) (s : M.Bytes) (b o : M.Bytes) (g : M.Generation) (t : Option M.Bytes) (c d : Option M.Metageneration)
     → opened append b o g (given (append && present) s) t c d ≡ opened append b o g (given present s) t c d
 no-handle true present s b o g t c d = refl
 no-handle false present s b o g t c d = refl
 
-pub same-parts : (append present : Bool) (s : M.Bytes) (g : M.Generation) (c d : Option ℤ) {b b′ o o′ : M.Bytes} {h t t′ : Option M.Bytes}
+pub same-parts : (append present : Bool) (s : M.Bytes) (g : M.Generation) (c d : Option M.Metageneration) {b b′ o o′ : M.Bytes} {h t t′ : Option M.Bytes}
     → b ≡ b′ → o ≡ o′ → h ≡ given (append && present) s → t ≡ t′ → opened append b o g h t c d ≡ opened append b′ o′ g (given present s) t′ c d
 same-parts append present s g c d {b} {b′} {o} {o′} {h} {t} {t′} p q r e =
     ap (λ (x : M.Bytes). opened append x o g h t c d) p

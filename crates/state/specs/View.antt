@@ -3,10 +3,9 @@ use mathlib.Core.Bool.{Bool, true, false}
 use mathlib.Core.Option.{Option, none, some}
 use Prim.Native.Nat.{_≤_}
 use lib.ListN.{take}
-use lib.IntN.{ℤ}
 use Rattle.rules.specs.Message as M
 use Rattle.rules.specs.Spec as R
-use Rattle.bidi_write.specs.View.{generationOf, given}
+use Rattle.bidi_write.specs.View.{generationOf, metagenerationOf, given}
 use Rattle.state.specs.declared.WriteHandle.{WriteHandle}
 use Rattle.state.specs.declared.RoutingToken.{RoutingToken}
 use Rattle.state.specs.declared.Condition.{Condition}
@@ -20,9 +19,9 @@ handleOf h = given (h .given) (take (h .length) (h .bytes))
 abbrev pub tokenOf : RoutingToken → Option M.Bytes
 tokenOf t = given (t .given) (take (t .length) (t .bytes))
 
-abbrev pub conditionOf : Condition → Option ℤ
+abbrev pub conditionOf : Condition → Option M.Metageneration
 conditionOf condition.Absent = none
-conditionOf (condition.Is n) = some n
+conditionOf (condition.Is n) = some (metagenerationOf n)
 
 unfoldable pub specOf : AppendObjectSpec → R.AppendObjectSpec
 specOf a = record {
@@ -58,7 +57,7 @@ pub record SpecFits (a : AppendObjectSpec) : Type 0 where
   pub token : a .«routing_token» .length ≤ 512
 
 -- the state that an opening dials with: a Write form has no generation and no handle
-abbrev pub opened : Bool → M.Bytes → M.Bytes → M.Generation → Option M.Bytes → Option M.Bytes → Option ℤ → Option ℤ → R.AppendObjectSpecState
+abbrev pub opened : Bool → M.Bytes → M.Bytes → M.Generation → Option M.Bytes → Option M.Bytes → Option M.Metageneration → Option M.Metageneration → R.AppendObjectSpecState
 opened true bucket object g handle token c d = R.appendForm (record {
   bucket = bucket;
   object = object;

@@ -10,6 +10,7 @@ ghost use Rattle.rules.specs.Spec as R;
 ghost use Rattle.rules.specs.Reconnect.{overlong};
 ghost use Rattle.state.specs.View.{handleOf, tokenOf, conditionOf, specOf, stateOf, opened, SpecFits};
 use bidi_write::Generation;
+use bidi_write::Metageneration;
 use bidi_write::NewGeneration;
 use bidi_write::Redirect;
 use bidi_write::Response;
@@ -133,7 +134,7 @@ impl RoutingToken {
 // A condition on the metageneration.
 pub enum Condition {
     Absent,
-    Is(i64),
+    Is(Metageneration),
 }
 
 pub struct AppendObjectSpec {

@@ -352,7 +352,7 @@ fn conditions(out: &mut [u8], n: usize, matching: Condition, not_matching: Condi
 fn condition(out: &mut [u8], n: usize, c: Condition) -> usize {
     match c {
         Condition::Absent => text(out, n, b"none"),
-        Condition::Is(x) => trace_text::signed(out, n, x),
+        Condition::Is(x) => trace_text::signed(out, n, x.0),
     }
 }
 

@@ -102,7 +102,7 @@ pub fn i64_at(input: &[u8], at: usize) -> I64 {
     let x = bench_records::i64_of(bench_records::u64_of(low.value, high.value));
     I64 {
         given: true,
-        value: x.0,
+        value: x,
         next: high.next,
     }
 }

@@ -13,6 +13,7 @@ use crate::fields::u32_at;
 use crate::message::read_message;
 use bidi_write::Checksum;
 use bidi_write::Generation;
+use bidi_write::Metageneration;
 use bidi_write::Offset;
 use openings::Capacity;
 use openings::Opening;
@@ -102,7 +103,7 @@ fn capacity(x: U32) -> Capacity {
 
 fn condition(x: I64) -> Condition {
     if x.given {
-        return Condition::Is(x.value);
+        return Condition::Is(Metageneration(x.value));
     }
     Condition::Absent
 }

@@ -24,23 +24,23 @@ upper n l h =
     let e : 2 ^ 64 - suc (0xffff_ffff_ffff_ffff - n) ≡ n = omega arith in
     minus (0xffff_ffff_ffff_ffff - n) k ∙ sym (toZ-neg w64 (0xffff_ffff_ffff_ffff - n) k) ∙ ap (toZ w64) e
 
-cast-t3 : tie.Need-cast-t3
-cast-t3 c = search needs
+cast-result : tie.Need-cast-result
+cast-result c = search needs
 
 returns : tie.Need-returns
 returns c = search needs
 
-sub-t4 : tie.Need-sub-t4
-sub-t4 c = search needs
+sub-result : tie.Need-sub-result
+sub-result c = search needs
 
-cast-t5 : tie.Need-cast-t5
-cast-t5 c = search needs
+cast-result-2 : tie.Need-cast-result-2
+cast-result-2 c = search needs
 
-sub-t6 : tie.Need-sub-t6
-sub-t6 c = fits (0xffff_ffff_ffff_ffff - c .before .args .n) (omega arith)
+sub-result-2 : tie.Need-sub-result-2
+sub-result-2 c = fits (0xffff_ffff_ffff_ffff - c .before .args .n) (omega arith)
 
 returns-2 : tie.Need-returns-2
 returns-2 c = toZ-ofZ (fits (0xffff_ffff_ffff_ffff - c .before .args .n) (omega arith)) ∙ upper (c .before .args .n) (omega arith) (omega arith)
 
 pub i64-of-spec : {M : Type 1} → statement M
-i64-of-spec = tie.close (tie.spec cast-t3 returns sub-t4 cast-t5 sub-t6 returns-2)
+i64-of-spec = tie.close (tie.spec cast-result returns sub-result cast-result-2 sub-result-2 returns-2)

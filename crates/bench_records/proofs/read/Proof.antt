@@ -41,14 +41,14 @@ read-append-requires c κs = search needs
 returns-2 : tie.Need-returns-2
 returns-2 c = (sym (met (c .before .before) (mark "RS") (c .before .match .keys6) ∙ size-cut RS (text (c .before .before)) (omega arith)), tt)
 
-i64-at-requires : tie.Need-i64-at-requires
-i64-at-requires c κs = search needs
+size-at-requires : tie.Need-size-at-requires
+size-at-requires c κs = search needs
 
 returns-3 : tie.Need-returns-3
 returns-3 c = (sym (met (c .before .before) (mark "HS") (c .before .match .keys7) ∙ size-cut HS (text (c .before .before)) (omega arith)), tt)
 
-i64-at-requires-2 : tie.Need-i64-at-requires-2
-i64-at-requires-2 c κs = search needs
+size-at-requires-2 : tie.Need-size-at-requires-2
+size-at-requires-2 c κs = search needs
 
 returns-4 : tie.Need-returns-4
 returns-4 c = (sym (met (c .before .before) (mark "VE") (c .before .match .keys9) ∙ verdict-cut (text (c .before .before)) (omega arith)), tt)
@@ -74,12 +74,12 @@ returns-9 c = (sym (met (c .before) (mark "CL") (c .match .keys5)), search needs
 returns-10 : tie.Need-returns-10
 returns-10 c =
     let at = c .before .before .before in
-    (sized RS (text at) (c .i64-at .result .0) (omega arith) (c .i64-at .ensures) ∙ sym (met at (mark "RS") (c .before .before .match .keys6)), search needs)
+    (sized RS (text at) (c .size-at .result .0) (omega arith) (c .size-at .ensures) ∙ sym (met at (mark "RS") (c .before .before .match .keys6)), search needs)
 
 returns-11 : tie.Need-returns-11
 returns-11 c =
     let at = c .before .before .before in
-    (sized HS (text at) (c .i64-at2 .result .0) (omega arith) (c .i64-at2 .ensures) ∙ sym (met at (mark "HS") (c .before .before .match .keys7)), search needs)
+    (sized HS (text at) (c .size-at2 .result .0) (omega arith) (c .size-at2 .ensures) ∙ sym (met at (mark "HS") (c .before .before .match .keys7)), search needs)
 
 returns-12 : tie.Need-returns-12
 returns-12 c = (sym (met (c .before) (mark "BR") (c .match .keys8)), search needs)
@@ -104,9 +104,9 @@ read-spec =
     read-open-requires
     read-append-requires
     returns-2
-    i64-at-requires
+    size-at-requires
     returns-3
-    i64-at-requires-2
+    size-at-requires-2
     returns-4
     shared-slice-read-verdict
     returns-5

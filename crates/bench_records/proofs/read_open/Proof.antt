@@ -16,8 +16,8 @@ u16-at-requires c κs = search needs
 u32-at-requires : tie.Need-u32-at-requires
 u32-at-requires c κs = search needs
 
-i64-at-requires : tie.Need-i64-at-requires
-i64-at-requires c κs = search needs
+size-at-requires : tie.Need-size-at-requires
+size-at-requires c κs = search needs
 
 cast-t5 : tie.Need-cast-t5
 cast-t5 c = search needs
@@ -28,12 +28,12 @@ cast-t7 c = search needs
 returns-2 : tie.Need-returns-2
 returns-2 c =
     let start = c .before .before .before .before .before in (
-      opened (now (start .args .input)) (c .before .before .u16-at .result) (c .before .u32-at .result) (c .i64-at .result .0) (omega arith)
-          (c .before .before .u16-at .ensures) (c .before .u32-at .ensures) (c .i64-at .ensures),
+      opened (now (start .args .input)) (c .before .before .u16-at .result) (c .before .u32-at .result) (c .size-at .result .0) (omega arith)
+          (c .before .before .u16-at .ensures) (c .before .u32-at .ensures) (c .size-at .ensures),
       search needs,
     )
 
 pub read-open-spec : {M : Type 1} → statement M
 read-open-spec =
     tie.close
-    (tie.spec returns u16-at-requires u32-at-requires i64-at-requires cast-t5 cast-t7 returns-2)
+    (tie.spec returns u16-at-requires u32-at-requires size-at-requires cast-t5 cast-t7 returns-2)
