@@ -1,17 +1,17 @@
 -- The payload of an opening: stored at offset 0 and acknowledged to P, with its place in the write offset and the running sum.
 -- Assumes nothing.
 use mathlib.Core.Path.{_≡_, refl, sym, ap, ap₂, _∙_, subst}
-use mathlib.Core.Bool.{false, _&&_}
+use mathlib.Core.Bool.{true, false, _&&_}
 use mathlib.Core.Option.{Option, none, some}
 use mathlib.Core.List.{List, [], _∷_, _++_}
 use mathlib.Core.Logic.{⊎-elim}
 use Prim.Native.Nat.{ℕ, _+_, _<_, _≤_, max}
 use native.Mathlib.Nat.{zero-add}
 use native.Mathlib.Omega.{arith}
-use borrow.Author.Tests.{le-leb, lt-leb, leb-true, leb-false}
+use borrow.Author.Tests.{le-leb, lt-leb, leb-true, leb-false, ltb-true, ltb-false}
 use lib.Dec.{leb}
 use lib.IntN.{ℤ, pos, negsuc}
-use lib.Signed.{leZ}
+use lib.Signed.{ltZ, leZ}
 use lib.ListN.{length}
 use lib.Seq.{take-length}
 use Rattle.rules.specs.Limits.{storeSize}
@@ -38,6 +38,14 @@ pub larger-is : (p : ℤ) (n : ℕ) → O.larger p (pos n) ≡ pos (max (toℕ p
 larger-is (pos q) n =
     cond-ind (λ (z : ℤ). z ≡ pos (max q n)) (leb q n) (λ e. ap pos (omega (arith, leb-true q n e))) (λ e. ap pos (omega (arith, leb-false q n e)))
 larger-is (negsuc q) n = ap pos (omega arith)
+
+pub larger-end : (p : ℤ) (n : ℕ) → ltZ p (pos n) ≡ true → pos n ≡ O.larger p (pos n)
+larger-end (pos q) n h = ap pos (omega (arith, ltb-true q n h)) ∙ sym (larger-is (pos q) n)
+larger-end (negsuc q) n h = refl
+
+pub larger-size : (p : ℤ) (n : ℕ) → ltZ p (pos n) ≡ false → p ≡ O.larger p (pos n)
+larger-size (pos q) n h = ap pos (omega (arith, ltb-false q n h)) ∙ sym (larger-is (pos q) n)
+larger-size (negsuc q) n h = let z : _≡_ {A = ℕ} 0 1 = cc in absurd (omega arith)
 
 -- ---- the running sum
 

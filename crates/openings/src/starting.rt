@@ -203,7 +203,8 @@ fn store_payload(
     let n = payload.len();
     ring::copy_in(store, size, 0, 0, payload, n);
     let pushed = replay_buffer::push(buffer, table, slots, n, sum);
-    replay_buffer::ack(pushed, store, size, table, slots, n as u64, persisted)
+    let end = bidi_write::from_nat(n as u64);
+    replay_buffer::ack(pushed, store, size, table, slots, end, persisted)
 }
 
 // No chunk, at the front of store and table.
@@ -224,12 +225,11 @@ fn write_offset(persisted: Offset, n: usize) -> Offset
     requires { ⌜ n ≤ maxChunk ⌝ }
     ensures { λ r. ⌜ (r .0 ≡ O.larger (persisted .0) (pos n)) × (toℕ (r .0) < 2 ^ 63) ⌝ }
 {
-    let p = bidi_write::to_nat(persisted);
-    let end = n as u64;
-    if p < end {
-        return bidi_write::from_nat(end);
+    let end = bidi_write::from_nat(n as u64);
+    if bidi_write::below(persisted, end) {
+        return end;
     }
-    bidi_write::from_nat(p)
+    persisted
 }
 
 // "The running sum is the payload's, else 0 where P = 0, else the response's, else unknown."
@@ -239,10 +239,8 @@ fn running_sum(present: bool, sum: u32, persisted: Offset, stated: Checksum) -> 
     if present {
         return Checksum::Known(sum);
     }
-    if bidi_write::is_negative(persisted) {
-        return stated;
-    }
-    if bidi_write::to_nat(persisted) == 0 {
+    let p = persisted.0;
+    if p == 0 {
         return Checksum::Known(0);
     }
     stated

@@ -1,18 +1,17 @@
 -- The ways of a trim and of an acknowledgement, on lists and numbers alone.
 -- Assumes nothing.
 use mathlib.Core.Path.{_≡_, refl, sym, ap, _∙_}
-use mathlib.Core.Bool.{true}
 use mathlib.Core.List.{List, [], _∷_}
 use Prim.Native.Nat.{ℕ, _+_, _-_, _<_, _≤_, _^_}
 use native.Mathlib.Omega.{arith}
-use borrow.Author.Tests.{ltb-true}
-use lib.IntN.{ℤ, pos, negsuc}
-use lib.Signed.{ltZ}
+use borrow.Author.Tests.{leb-false}
+use lib.IntN.{ℤ, pos}
 use lib.ListN.{length, take, drop, getD}
 use lib.Seq.{drop-cons}
 use Rattle.crc32c.specs.Reg.{crcOf}
 use Rattle.rules.specs.Message.{Bytes}
 use Rattle.rules.specs.Respond.{ack}
+use Rattle.bidi_write.specs.Numbers.{toℕ}
 use Rattle.ring.specs.Ring.{ring, part, Within, Written}
 use Rattle.replay_buffer.specs.Word.{packed, lenOf}
 use Rattle.ring.proofs.Laws.{take-part}
@@ -23,13 +22,13 @@ use Rattle.replay_buffer.specs.Ack.{Acks, Trims, Stored, advanced, front
 use Rattle.replay_buffer.specs.declared.ReplayBuffer.{ReplayBuffer}
 use Rattle.replay_buffer.specs.declared.Front.{Front}
 use Rattle.replay_buffer.proofs.Chunks.{all-drop}
-use Rattle.replay_buffer.proofs.Prefix.{front-chunks, front-total, front-above, ack-negative, ack-front, ack-none, ack-below, ack-within}
+use Rattle.replay_buffer.proofs.Prefix.{front-chunks, front-total, front-above, ack-front, ack-none, ack-below, ack-within}
 use Rattle.replay_buffer.proofs.Laws.{word-in, length-words, length-stored, total-stored}
 use Rattle.replay_buffer.proofs.Rest.{words-advanced, stored-advanced, start-advanced, queue-advanced, sound-advanced, keeps-advanced, keeps-same, keeps-trans}
 
 module _ (m : Lent) (b : ReplayBuffer) (end : ℕ) (store : Bytes) (table : List ℕ) (fits : Fits m b end (length store) (length table)) where
   -- nothing to trim
-  pub kept-none : (p : ℕ) → b .chunks ≡ 0 → Trims m b end store table p b table
+  pub kept-none : (p : ℤ) → b .chunks ≡ 0 → Trims m b end store table p b table
   unfolding queueOf
   kept-none p e =
       record {
@@ -38,7 +37,7 @@ module _ (m : Lent) (b : ReplayBuffer) (end : ℕ) (store : Bytes) (table : List
         sound = λ l s a. s;
       }
 
-  pub kept-above : (p : ℕ) → p ≤ end - b .«unpersisted_bytes» → Trims m b end store table p b table
+  pub kept-above : (p : ℤ) → toℕ p ≤ end - b .«unpersisted_bytes» → Trims m b end store table p b table
   unfolding queueOf
   kept-above p h =
       record {
@@ -59,15 +58,15 @@ module _ (m : Lent) (b : ReplayBuffer) (end : ℕ) (store : Bytes) (table : List
     front-len limit s = omega (arith, ap total front-word, s .stored-is)
 
     -- no table that pushes and acknowledgements leave
-    pub kept-short : end - b .«unpersisted_bytes» < p → lenOf w ≤ p - (end - b .«unpersisted_bytes») → Trims m b end store table p b table
+    pub kept-short : end - b .«unpersisted_bytes» < p → lenOf w ≤ p - (end - b .«unpersisted_bytes») → Trims m b end store table (pos p) b table
     kept-short g h =
         record {
           keeps = keeps-same m b end store table fits;
-          queue-is = λ l s a. absurd (omega (arith, rw front-word at a));
+          queue-is = λ l s a. absurd (omega (arith, leb-false (end - b .«unpersisted_bytes» + lenOf w) p (rw front-word at a)));
           sound = λ l s a. s;
         }
 
-    pub kept-long : b .«unpersisted_bytes» < lenOf w → Trims m b end store table p b table
+    pub kept-long : b .«unpersisted_bytes» < lenOf w → Trims m b end store table (pos p) b table
     kept-long h =
         record { keeps = keeps-same m b end store table fits; queue-is = λ l s a. absurd (omega (arith, front-len l s)); sound = λ l s a. s }
 
@@ -76,7 +75,7 @@ module _ (m : Lent) (b : ReplayBuffer) (end : ℕ) (store : Bytes) (table : List
       pub trimmed-front : end - b .«unpersisted_bytes» < p → p ≡ end - b .«unpersisted_bytes» + d → lenOf w ≡ d + n → 0 < n → lenOf w ≤ b .«unpersisted_bytes»
           → Written (m .slots) (advanced m b (record { chunks = 0; bytes = d }) .first) 0 (packed n sum ∷ []) 1 table table′
           → sum ≡ crcOf (part (m .size) (advanced m b (record { chunks = 0; bytes = d }) .head) 0 n store)
-          → Trims m b end store table p (advanced m b (record { chunks = 0; bytes = d })) table′
+          → Trims m b end store table (pos p) (advanced m b (record { chunks = 0; bytes = d })) table′
       unfolding queueOf advanced
       trimmed-front hp ep el hn hl put es =
           let f : Front = record { chunks = 0; bytes = d } in
@@ -112,41 +111,31 @@ module _ (m : Lent) (b : ReplayBuffer) (end : ℕ) (store : Bytes) (table : List
           }
 
 module _ (m : Lent) (b : ReplayBuffer) (end : ℕ) (store : Bytes) (table : List ℕ) (fits : Fits m b end (length store) (length table)) where
-  pub acks-negative : (z : ℤ) → ltZ z (pos 0) ≡ true → Acks m b end store table z b table
-  unfolding queueOf
-  acks-negative (pos n) e = absurd (omega (arith, ltb-true n 0 e))
-  acks-negative (negsuc n) e =
-      record {
-        keeps = keeps-same m b end store table fits;
-        queue-is = λ l s. sym (ack-negative n (end - b .«unpersisted_bytes») (wordsOf m b table) (storedOf m b store));
-        sound = λ l s. s;
-      }
-
-  pub front-stored : (p : ℕ) (f : Front) → f ≡ frontOf p (end - b .«unpersisted_bytes») (wordsOf m b table) → f .bytes ≤ b .«unpersisted_bytes» → Stored b f
+  pub front-stored : (p : ℤ) (f : Front) → f ≡ frontOf p (pos (end - b .«unpersisted_bytes»)) (wordsOf m b table) → f .bytes ≤ b .«unpersisted_bytes» → Stored b f
   front-stored p f e h =
       record {
         chunks-in = omega
-            (arith, ap (λ (x : Front). x .chunks) e, front-chunks p (end - b .«unpersisted_bytes») (wordsOf m b table), length-words m b end store table fits);
+            (arith, ap (λ (x : Front). x .chunks) e, front-chunks p (pos (end - b .«unpersisted_bytes»)) (wordsOf m b table), length-words m b end store table fits);
         bytes-in = h;
       }
 
-  module _ (z : ℤ) (p : ℕ) (f : Front) (ef : f ≡ frontOf p (end - b .«unpersisted_bytes») (wordsOf m b table)) where
+  module _ (p : ℤ) (f : Front) (ef : f ≡ frontOf p (pos (end - b .«unpersisted_bytes»)) (wordsOf m b table)) where
     -- no table that pushes and acknowledgements leave
-    pub acks-too-long : b .«unpersisted_bytes» < f .bytes → Acks m b end store table z b table
+    pub acks-too-long : b .«unpersisted_bytes» < f .bytes → Acks m b end store table p b table
     acks-too-long h =
         record {
           keeps = keeps-same m b end store table fits;
-          queue-is = λ l s. absurd (omega (arith, front-total p (end - b .«unpersisted_bytes») (wordsOf m b table), ap (λ (x : Front). x .bytes) ef, s .stored-is));
+          queue-is = λ l s. absurd (omega (arith, front-total p (pos (end - b .«unpersisted_bytes»)) (wordsOf m b table), ap (λ (x : Front). x .bytes) ef, s .stored-is));
           sound = λ l s. s;
         }
 
-    pub acks-trimmed : (r : ReplayBuffer) (table′ : List ℕ) → z ≡ pos p → Stored b f → Trims m (advanced m b f) end store table p r table′
-        → Acks m b end store table z r table′
+    pub acks-trimmed : (r : ReplayBuffer) (table′ : List ℕ) → Stored b f → Trims m (advanced m b f) end store table p r table′
+        → Acks m b end store table p r table′
     unfolding queueOf
-    acks-trimmed r table′ ez st t =
+    acks-trimmed r table′ st t =
         let o : ℕ = end - b .«unpersisted_bytes» in
         let ws : List ℕ = wordsOf m b table in
-        let tot : total (drop (f .chunks) ws) + f .bytes ≡ total ws = rw ef (front-total p o ws) in
+        let tot : total (drop (f .chunks) ws) + f .bytes ≡ total ws = rw ef (front-total p (pos o) ws) in
         let sd : (l : ℕ) → Sound l m b table → Sound l m (advanced m b f) table = λ l s. sound-advanced m b f end store table fits st l s tot in
         let ab : Above p (end - advanced m b f .«unpersisted_bytes») (wordsOf m (advanced m b f) table) =
         rw (start-advanced m b f end store table fits st, words-advanced m b f end store table fits st, ef) (front-above p o ws) in
@@ -154,9 +143,8 @@ module _ (m : Lent) (b : ReplayBuffer) (end : ℕ) (store : Bytes) (table : List
           keeps = keeps-trans m b (advanced m b f) r end store table table′ (keeps-advanced m b f end store table fits st table refl) (t .keeps);
           queue-is = λ l s.
               t .queue-is l (sd l s) ab
-              ∙ ap (ack (pos p)) (queue-advanced m b f end store table fits st)
-              ∙ ap (λ (x : Front). ack (pos p) (chunksOf (o + x .bytes) (drop (x .chunks) ws) (drop (x .bytes) (storedOf m b store)))) ef
-              ∙ sym (ack-front p o ws (storedOf m b store) (omega (arith, total-stored m b end store table fits l s)))
-              ∙ ap (λ (x : ℤ). ack x (chunksOf o ws (storedOf m b store))) (sym ez);
+              ∙ ap (ack p) (queue-advanced m b f end store table fits st)
+              ∙ ap (λ (x : Front). ack p (chunksOf (o + x .bytes) (drop (x .chunks) ws) (drop (x .bytes) (storedOf m b store)))) ef
+              ∙ sym (ack-front p o ws (storedOf m b store) (omega (arith, total-stored m b end store table fits l s)));
           sound = λ l s. t .sound l (sd l s) ab;
         }

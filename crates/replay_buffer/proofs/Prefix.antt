@@ -8,13 +8,15 @@ use Prim.Native.Nat.{ℕ, zero, suc, _+_, _-_, _<_, _≤_, _^_}
 use native.Mathlib.Nat.{add-zero, add-assoc, suc-ne-zero}
 use native.Mathlib.Numerals.{add-one}
 use native.Mathlib.Omega.{arith}
-use borrow.Author.Tests.{lt-ltb, le-ltb, le-leb, lt-leb, leb-false}
+use borrow.Author.Tests.{lt-ltb, le-ltb, lt-leb}
 use lib.Dec.{leb}
-use lib.IntN.{pos, negsuc, natAbs, _-ℤ_}
+use lib.IntN.{ℤ, pos, negsuc, natAbs, _+ℤ_, _-ℤ_}
+use lib.Signed.{leZ}
 use lib.ListN.{length, take, drop, getD, length-drop, drop-of-length-le}
 use lib.Seq.{length-take-le, drop-cons, drop-drop}
 use Rattle.crc32c.specs.Reg.{crcOf}
 use Rattle.rules.specs.Respond.{ack}
+use Rattle.bidi_write.specs.Numbers.{toℕ}
 use Rattle.replay_buffer.specs.Word.{packed, lenOf}
 use Rattle.ring.proofs.Paste.{drop-take-add}
 use Rattle.replay_buffer.proofs.Words.{len-packed, sum-packed}
@@ -33,17 +35,17 @@ after-none f = same-front _ _ _ _ (omega arith) (omega arith)
 after-all : (i n : ℕ) → after i n nothing ≡ record { chunks = i; bytes = n }
 after-all i n = same-front _ _ _ _ (omega arith) (omega arith)
 
-module _ (p start at n i : ℕ) (ws : List ℕ) (e : frontOf p start ws ≡ after i n (frontOf p at (drop i ws))) where
+module _ (p start at : ℤ) (n i : ℕ) (ws : List ℕ) (e : frontOf p start ws ≡ after i n (frontOf p at (drop i ws))) where
   module _ (len : ℕ) (h : i < length ws) (el : len ≡ lenOf (getD ws i 0)) where
-    pub loop-more : at + len ≤ p → frontOf p start ws ≡ after (i + 1) (n + len) (frontOf p (at + len) (drop (i + 1) ws))
+    pub loop-more : leZ (at +ℤ pos len) p ≡ true → frontOf p start ws ≡ after (i + 1) (n + len) (frontOf p (at +ℤ pos len) (drop (i + 1) ws))
     loop-more l =
-        let g : at + lenOf (getD ws i 0) ≤ p = omega arith in
-        e ∙ rw (el, drop-cons ws i 0 h, le-leb (at + lenOf (getD ws i 0)) p g, add-one i) (same-front _ _ _ _ (omega arith) (omega arith))
+        let g : leZ (at +ℤ pos (lenOf (getD ws i 0))) p ≡ true = rw el at l in
+        e ∙ rw (el, drop-cons ws i 0 h, g, add-one i) (same-front _ _ _ _ (omega arith) (omega arith))
 
-    pub loop-stop : p < at + len → record { chunks = i; bytes = n } ≡ frontOf p start ws
+    pub loop-stop : leZ (at +ℤ pos len) p ≡ false → record { chunks = i; bytes = n } ≡ frontOf p start ws
     loop-stop l =
-        let g : p < at + lenOf (getD ws i 0) = omega arith in
-        let z : frontOf p at (drop i ws) ≡ nothing = rw (drop-cons ws i 0 h, lt-leb (at + lenOf (getD ws i 0)) p g) in
+        let g : leZ (at +ℤ pos (lenOf (getD ws i 0))) p ≡ false = rw el at l in
+        let z : frontOf p at (drop i ws) ≡ nothing = rw (drop-cons ws i 0 h, g) in
         sym (e ∙ ap (after i n) z ∙ after-all i n)
 
   pub loop-end : length ws ≤ i → record { chunks = i; bytes = n } ≡ frontOf p start ws
@@ -53,72 +55,67 @@ module _ (p start at n i : ℕ) (ws : List ℕ) (e : frontOf p start ws ≡ afte
 
 -- ---- what it is
 
-by-leb : (a b : ℕ) → (leb a b ≡ true) ⊎ (leb a b ≡ false)
-by-leb a b = either (leb a b)
-  where
-    either : (c : Bool) → (c ≡ true) ⊎ (c ≡ false)
-    either true = inl refl
-    either false = inr refl
+either : (c : Bool) → (c ≡ true) ⊎ (c ≡ false)
+either true = inl refl
+either false = inr refl
 
 one-add : (n : ℕ) → 1 + n ≡ suc n
 one-add n = omega arith
 
-pub front-chunks : (p o : ℕ) (ws : List ℕ) → frontOf p o ws .chunks ≤ length ws
+pub front-chunks : (p o : ℤ) (ws : List ℕ) → frontOf p o ws .chunks ≤ length ws
 front-chunks p o [] = omega arith
 front-chunks p o (w ∷ ws) =
     ⊎-elim
-    (λ (h : leb (o + lenOf w) p ≡ true). rw h (omega (arith, front-chunks p (o + lenOf w) ws)))
-    (λ (h : leb (o + lenOf w) p ≡ false). rw h (omega arith))
-    (by-leb (o + lenOf w) p)
+    (λ (h : leZ (o +ℤ pos (lenOf w)) p ≡ true). rw h (omega (arith, front-chunks p (o +ℤ pos (lenOf w)) ws)))
+    (λ (h : leZ (o +ℤ pos (lenOf w)) p ≡ false). rw h (omega arith))
+    (either (leZ (o +ℤ pos (lenOf w)) p))
 
-pub front-total : (p o : ℕ) (ws : List ℕ) → total (drop (frontOf p o ws .chunks) ws) + frontOf p o ws .bytes ≡ total ws
+pub front-total : (p o : ℤ) (ws : List ℕ) → total (drop (frontOf p o ws .chunks) ws) + frontOf p o ws .bytes ≡ total ws
 front-total p o [] = omega arith
 front-total p o (w ∷ ws) =
     ⊎-elim
-    (λ (h : leb (o + lenOf w) p ≡ true). rw (h, one-add) (omega (arith, front-total p (o + lenOf w) ws)))
-    (λ (h : leb (o + lenOf w) p ≡ false). rw h (omega arith))
-    (by-leb (o + lenOf w) p)
+    (λ (h : leZ (o +ℤ pos (lenOf w)) p ≡ true). rw (h, one-add) (omega (arith, front-total p (o +ℤ pos (lenOf w)) ws)))
+    (λ (h : leZ (o +ℤ pos (lenOf w)) p ≡ false). rw h (omega arith))
+    (either (leZ (o +ℤ pos (lenOf w)) p))
 
-pub front-above : (p o : ℕ) (ws : List ℕ) → Above p (o + frontOf p o ws .bytes) (drop (frontOf p o ws .chunks) ws)
+pub front-above : (p : ℤ) (o : ℕ) (ws : List ℕ) → Above p (o + frontOf p (pos o) ws .bytes) (drop (frontOf p (pos o) ws .chunks) ws)
 front-above p o [] = tt
 front-above p o (w ∷ ws) =
     ⊎-elim
-    (λ (h : leb (o + lenOf w) p ≡ true). rw (h, one-add, ← add-assoc) (front-above p (o + lenOf w) ws))
-    (λ (h : leb (o + lenOf w) p ≡ false). rw h (omega (arith, leb-false (o + lenOf w) p h)))
-    (by-leb (o + lenOf w) p)
+    (λ (h : leZ (pos (o + lenOf w)) p ≡ true). rw (h, one-add, ← add-assoc) (front-above p (o + lenOf w) ws))
+    (λ (h : leZ (pos (o + lenOf w)) p ≡ false). rw (h, add-zero) h)
+    (either (leZ (pos (o + lenOf w)) p))
 
 -- ---- what the rule does with it, and with the chunk behind it
 
--- no chunk ends below zero
-pub ack-negative : (n o : ℕ) (ws bs : List ℕ) → ack (negsuc n) (chunksOf o ws bs) ≡ chunksOf o ws bs
-unfolding ack
-ack-negative n o [] bs = refl
-ack-negative n o (w ∷ ws) bs = refl
-
-pub ack-front : (p o : ℕ) (ws bs : List ℕ) → total ws ≤ length bs
-    → ack (pos p) (chunksOf o ws bs) ≡ ack (pos p) (chunksOf (o + frontOf p o ws .bytes) (drop (frontOf p o ws .chunks) ws) (drop (frontOf p o ws .bytes) bs))
+pub ack-front : (p : ℤ) (o : ℕ) (ws bs : List ℕ) → total ws ≤ length bs
+    → ack p (chunksOf o ws bs)
+    ≡ ack p (chunksOf (o + frontOf p (pos o) ws .bytes) (drop (frontOf p (pos o) ws .chunks) ws) (drop (frontOf p (pos o) ws .bytes) bs))
 unfolding ack
 ack-front p o [] bs e = refl
-ack-front p o (w ∷ ws) bs e =
+ack-front (pos p) o (w ∷ ws) bs e =
     let n : length (take (lenOf w) bs) ≡ lenOf w = length-take-le (lenOf w) bs (omega arith) in
     let r : total ws ≤ length (drop (lenOf w) bs) = simp length-drop (omega arith) in
     ⊎-elim
     (λ (h : leb (o + lenOf w) p ≡ true).
-    rw (n, h, one-add, ← add-assoc, ← drop-drop (frontOf p (o + lenOf w) ws .bytes) (lenOf w) bs) (ack-front p (o + lenOf w) ws (drop (lenOf w) bs) r))
+    rw (n, h, one-add, ← add-assoc, ← drop-drop (frontOf (pos p) (pos (o + lenOf w)) ws .bytes) (lenOf w) bs)
+    (ack-front (pos p) (o + lenOf w) ws (drop (lenOf w) bs) r))
     (λ (h : leb (o + lenOf w) p ≡ false). rw (h, add-zero))
-    (by-leb (o + lenOf w) p)
+    (either (leb (o + lenOf w) p))
+ack-front (negsuc p) o (w ∷ ws) bs e = rw add-zero
 
-pub ack-none : (p o : ℕ) (ws bs : List ℕ) → length ws ≡ 0 → ack (pos p) (chunksOf o ws bs) ≡ chunksOf o ws bs
+pub ack-none : (p : ℤ) (o : ℕ) (ws bs : List ℕ) → length ws ≡ 0 → ack p (chunksOf o ws bs) ≡ chunksOf o ws bs
 unfolding ack
 ack-none p o [] bs h = refl
 ack-none p o (w ∷ ws) bs h = absurd (suc-ne-zero (length ws) h)
 
-pub ack-below : (p o : ℕ) (ws bs : List ℕ) → p ≤ o → Above p o ws → total ws ≤ length bs → ack (pos p) (chunksOf o ws bs) ≡ chunksOf o ws bs
+pub ack-below : (p : ℤ) (o : ℕ) (ws bs : List ℕ) → toℕ p ≤ o → Above p o ws → total ws ≤ length bs → ack p (chunksOf o ws bs) ≡ chunksOf o ws bs
 unfolding ack
 ack-below p o [] bs h a e = refl
-ack-below p o (w ∷ ws) bs h a e =
+ack-below (pos p) o (w ∷ ws) bs h a e =
     let n : length (take (lenOf w) bs) ≡ lenOf w = length-take-le (lenOf w) bs (omega arith) in
-    rw (n, lt-leb (o + lenOf w) p a, le-ltb o p h)
+    rw (n, a, le-ltb o p h)
+ack-below (negsuc p) o (w ∷ ws) bs h a e = refl
 
 distance : (p o : ℕ) → o < p → natAbs (pos p -ℤ pos o) ≡ p - o
 distance p zero h = omega arith

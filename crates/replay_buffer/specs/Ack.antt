@@ -2,9 +2,9 @@
 use mathlib.Core.Path.{_≡_}
 use mathlib.Core.Bool.{Bool, true, false}
 use mathlib.Core.List.{List, [], _∷_}
-use Prim.Native.Nat.{ℕ, _+_, _-_, _≤_, _<_}
-use lib.Dec.{leb}
-use lib.IntN.{ℤ, pos}
+use Prim.Native.Nat.{ℕ, _+_, _-_, _≤_}
+use lib.IntN.{ℤ, pos, _+ℤ_}
+use lib.Signed.{leZ}
 use lib.ListN.{length, drop}
 use Rattle.rules.specs.Message.{Bytes}
 use Rattle.rules.specs.Respond as R
@@ -45,9 +45,9 @@ pickFront true f g = f
 pickFront false f g = g
 
 -- the chunks that end at or below p, where the words' first begins at o
-abbrev pub frontOf : ℕ → ℕ → List ℕ → Front
+abbrev pub frontOf : ℤ → ℤ → List ℕ → Front
 frontOf p o [] = nothing
-frontOf p o (w ∷ ws) = pickFront (leb (o + lenOf w) p) (after 1 (lenOf w) (frontOf p (o + lenOf w) ws)) nothing
+frontOf p o (w ∷ ws) = pickFront (leZ (o +ℤ pos (lenOf w)) p) (after 1 (lenOf w) (frontOf p (o +ℤ pos (lenOf w)) ws)) nothing
 
 -- f is within what is stored
 pub record Stored (b : ReplayBuffer) (f : Front) : Type 0 where
@@ -65,13 +65,13 @@ advanced m b f = record {
 }
 
 -- the first chunk, if there is one, ends above p
-abbrev pub Above : ℕ → ℕ → List ℕ → Type 0
+abbrev pub Above : ℤ → ℕ → List ℕ → Type 0
 Above p o [] = Unit {0}
-Above p o (w ∷ ws) = p < o + lenOf w
+Above p o (w ∷ ws) = leZ (pos (o + lenOf w)) p ≡ false
 
 -- the front chunk, which ends above p, is trimmed to it
-pub record Trims (m : Lent) (b : ReplayBuffer) (end : ℕ) (store : Bytes) (table : List ℕ) (p : ℕ) (r : ReplayBuffer) (table′ : List ℕ) : Type 0 where
+pub record Trims (m : Lent) (b : ReplayBuffer) (end : ℕ) (store : Bytes) (table : List ℕ) (p : ℤ) (r : ReplayBuffer) (table′ : List ℕ) : Type 0 where
   pub keeps : Keeps m b end store table r table′
   pub queue-is : (limit : ℕ) → Sound limit m b table → Above p (end - b .«unpersisted_bytes») (wordsOf m b table)
-      → queueOf m r end store table′ ≡ R.ack (pos p) (queueOf m b end store table)
+      → queueOf m r end store table′ ≡ R.ack p (queueOf m b end store table)
   pub sound : (limit : ℕ) → Sound limit m b table → Above p (end - b .«unpersisted_bytes») (wordsOf m b table) → Sound limit m r table′

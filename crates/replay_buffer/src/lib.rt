@@ -1,16 +1,21 @@
 // Ported from google-cloud-storage 1.21.0, src/storage/bidi_write/replay_buffer.rs (Apache-2.0); changed: no tasks, channels or heap.
 // Unacknowledged chunks: their bytes lie in a ring over the lent store, a word for each in a ring over the lent table.
 ghost use mathlib.Core.Path.{_≡_};
+ghost use mathlib.Core.Bool.{false};
 ghost use Prim.Native.Nat.{_<_, _≤_, _^_};
 ghost use lib.Dec.{leb};
+ghost use lib.IntN.{pos, _+ℤ_, _-ℤ_};
 ghost use lib.ListN.{length};
+ghost use lib.Signed.{ltZ, leZ};
 ghost use Rattle.ring.specs.Ring.{part, Within};
+ghost use Rattle.bidi_write.specs.Numbers.{toℕ};
 ghost use Rattle.rules.specs.Limits.{maxChunk, maxCapacity, storeSize};
 ghost use Rattle.replay_buffer.specs.Word.{packed, lenOf, sumOf};
 ghost use Rattle.replay_buffer.specs.View.{lent, Fits};
 ghost use Rattle.replay_buffer.specs.Push.{Room, Pushes};
 ghost use Rattle.replay_buffer.specs.Ack.{Acks, Stored, Trims, frontOf, advanced};
-ghost use Rattle.replay_buffer.specs.Replay.{Replays};
+ghost use Rattle.replay_buffer.specs.Replay.{noChunk, Replays};
+use bidi_write::Difference;
 use bidi_write::MAX_CAPACITY;
 use bidi_write::MAX_WRITE_CHUNK_SIZE;
 use bidi_write::Offset;
@@ -110,51 +115,56 @@ pub fn ack(
     size: usize,
     table: &mut [u64],
     slots: usize,
-    end: u64,
+    end: Offset,
     persisted: Offset,
 ) -> ReplayBuffer
-    requires { ⌜ Fits (lent size slots) b end (length (now store)) (length (now table)) ⌝ }
-    ensures { λ r. ⌜ Acks (lent size slots) b end (now (store .entry)) (now (table .entry)) (persisted .0) r (now (table .exit)) ⌝ }
+    requires { ⌜ (Fits (lent size slots) b (toℕ (end .0)) (length (now store)) (length (now table))) × (ltZ (end .0) (pos 0) ≡ false) ⌝ }
+    ensures { λ r. ⌜ Acks (lent size slots) b (toℕ (end .0)) (now (store .entry)) (now (table .entry)) (persisted .0) r (now (table .exit)) ⌝ }
 {
-    if bidi_write::is_negative(persisted) {
-        return b;
-    }
-    let p = bidi_write::to_nat(persisted);
     let first = b.first;
     let chunks = b.chunks;
-    let start = end - b.unpersisted_bytes as u64;
-    let front = acknowledged(table, slots, first, chunks, start, p);
+    let start = bidi_write::minus(end, b.unpersisted_bytes);
+    let front = acknowledged(table, slots, first, chunks, start, persisted);
     // no table that pushes and acknowledgements leave
     if b.unpersisted_bytes < front.bytes {
         return b;
     }
     let rest = advance(b, size, slots, front);
-    trim(rest, store, size, table, slots, end, p)
+    trim(rest, store, size, table, slots, end, persisted)
 }
 
-// The chunks at the front of the table that end at or below p, where the first begins at start.
+// Whether n bytes from an offset on end at or below a size.
+fn ends_by(at: Offset, n: u32, persisted: Offset) -> bool
+    ensures { λ r. ⌜ r ≡ leZ (at .0 +ℤ pos n) (persisted .0) ⌝ }
+{
+    let d = bidi_write::subtract(persisted, at);
+    match d {
+        Difference::Below(_) => false,
+        Difference::AtLeast(m) => n as u64 <= m,
+    }
+}
+
+// The chunks at the front of the table that end at or below a persisted size, where the first begins at start.
 fn acknowledged(
     table: &[u64],
     slots: usize,
     first: usize,
     chunks: usize,
-    start: u64,
-    p: u64,
+    start: Offset,
+    persisted: Offset,
 ) -> Front
     requires { ⌜ Within (length (now table)) slots first 0 chunks ⌝ }
-    requires { ⌜ (start < 2 ^ 63) × (p < 2 ^ 63) ⌝ }
-    ensures { λ r. ⌜ r ≡ frontOf p start (part slots first 0 chunks (now (table .entry))) ⌝ }
+    ensures { λ r. ⌜ r ≡ frontOf (persisted .0) (start .0) (part slots first 0 chunks (now (table .entry))) ⌝ }
 {
     let mut i: usize = 0;
     let mut bytes: usize = 0;
-    let mut at: u64 = start;
+    let mut at = start;
     while i < chunks {
         let len = len_of(ring::word_at(table, slots, first, i));
-        let end = at + len as u64;
-        if p < end {
+        if !ends_by(at, len, persisted) {
             break;
         }
-        at = end;
+        at = bidi_write::plus(at, len as usize);
         bytes += len as usize;
         i += 1;
     }
@@ -179,28 +189,39 @@ fn advance(b: ReplayBuffer, size: usize, slots: usize, f: Front) -> ReplayBuffer
     }
 }
 
-// The front chunk, which ends above p, begins at p or above it.
+// How far a size is past an offset, and 0 where it is not.
+fn past(persisted: Offset, at: Offset) -> u64
+    ensures { λ r. ⌜ r ≡ toℕ (persisted .0 -ℤ at .0) ⌝ }
+{
+    let d = bidi_write::subtract(persisted, at);
+    match d {
+        Difference::Below(_) => 0,
+        Difference::AtLeast(n) => n,
+    }
+}
+
+// The front chunk, which ends above the persisted size, begins there or above it.
 fn trim(
     b: ReplayBuffer,
     store: &[u8],
     size: usize,
     table: &mut [u64],
     slots: usize,
-    end: u64,
-    p: u64,
+    end: Offset,
+    persisted: Offset,
 ) -> ReplayBuffer
-    requires { ⌜ Fits (lent size slots) b end (length (now store)) (length (now table)) ⌝ }
-    ensures { λ r. ⌜ Trims (lent size slots) b end (now (store .entry)) (now (table .entry)) p r (now (table .exit)) ⌝ }
+    requires { ⌜ (Fits (lent size slots) b (toℕ (end .0)) (length (now store)) (length (now table))) × (ltZ (end .0) (pos 0) ≡ false) ⌝ }
+    ensures { λ r. ⌜ Trims (lent size slots) b (toℕ (end .0)) (now (store .entry)) (now (table .entry)) (persisted .0) r (now (table .exit)) ⌝ }
 {
     if b.chunks == 0 {
         return b;
     }
     let first = b.first;
-    let start = end - b.unpersisted_bytes as u64;
-    if p <= start {
+    let start = bidi_write::minus(end, b.unpersisted_bytes);
+    let trimmed = past(persisted, start);
+    if trimmed == 0 {
         return b;
     }
-    let trimmed = p - start;
     let len = len_of(ring::word_at(table, slots, first, 0)) as usize;
     // no table that pushes and acknowledgements leave
     if len as u64 <= trimmed {
@@ -235,13 +256,13 @@ pub fn chunk_to_replay(
     size: usize,
     table: &[u64],
     slots: usize,
-    end: u64,
+    end: Offset,
     next: usize,
     at: usize,
     out: &mut [u8],
 ) -> Chunk
-    requires { ⌜ Fits (lent size slots) b end (length (now store)) (length (now table)) ⌝ }
-    ensures { λ r. ⌜ Replays (lent size slots) b end (now (store .entry)) (now (table .entry)) next at (now (out .entry)) r (now (out .exit)) ⌝ }
+    requires { ⌜ (Fits (lent size slots) b (toℕ (end .0)) (length (now store)) (length (now table))) × (ltZ (end .0) (pos 0) ≡ false) ⌝ }
+    ensures { λ r. ⌜ Replays (lent size slots) b (toℕ (end .0)) (now (store .entry)) (now (table .entry)) next at (now (out .entry)) r (now (out .exit)) ⌝ }
 {
     let head = b.head;
     let first = b.first;
@@ -260,15 +281,16 @@ pub fn chunk_to_replay(
         return no_chunk();
     }
     ring::copy_out(store, size, head, at, out, length);
+    let start = bidi_write::minus(end, b.unpersisted_bytes);
     Chunk {
-        write_offset: bidi_write::from_nat(end - b.unpersisted_bytes as u64 + at as u64),
+        write_offset: bidi_write::plus(start, at),
         length,
         crc32c: sum_of(word),
     }
 }
 
 fn no_chunk() -> Chunk
-    ensures { λ r. ⌜ r .length ≡ 0 ⌝ }
+    ensures { λ r. ⌜ r ≡ noChunk ⌝ }
 {
     Chunk {
         write_offset: Offset(0),

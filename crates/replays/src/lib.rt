@@ -103,8 +103,7 @@ fn hand_chunk(s: Session, store: &[u8], table: &[u64], out: &mut [u8], at: Curso
 {
     let b = s.worker.replay_buffer;
     let size = replay_buffer::ring_size(b.capacity, s.limit);
-    let offset = s.write_offset;
-    let end = bidi_write::to_nat(offset);
+    let end = s.write_offset;
     let c = replay_buffer::chunk_to_replay(
         b,
         store,

@@ -240,8 +240,7 @@ fn absorb_size(s: Session, store: &[u8], table: &mut [u64], n: Offset, finalized
     let completed = q.satisfied(n, finalized);
     let left = q.complete(completed);
     let size = replay_buffer::ring_size(b.capacity, s.limit);
-    let end = bidi_write::to_nat(at);
-    let rest = replay_buffer::ack(b, store, size, table, s.slots, end, n);
+    let rest = replay_buffer::ack(b, store, size, table, s.slots, at, n);
     let p = s.phase;
     let sent = s.sent;
     let session = renew(s, w.absorb(rest, left, n), p, sent);

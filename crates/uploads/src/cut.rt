@@ -1,8 +1,11 @@
 // Ported from google-cloud-storage 1.21.0, src/storage/bidi_write/transport.rs and worker.rs (Apache-2.0); changed: no tasks, channels or heap.
 // What append, flush and finalise share: the cut of a chunk.
 ghost use mathlib.Core.Path.{_≡_};
+ghost use mathlib.Core.Bool.{false};
 ghost use Prim.Native.Nat.{_+_, _<_, _≤_, _^_};
+ghost use lib.IntN.{pos};
 ghost use lib.ListN.{length};
+ghost use lib.Signed.{ltZ};
 ghost use Rattle.ring.specs.Ring.{Within};
 ghost use Rattle.bidi_write.specs.Numbers.{toℕ};
 ghost use Rattle.replay_buffer.specs.Push.{Room};
@@ -70,7 +73,7 @@ fn cut_bytes(
 
 // The session after a cut of n bytes, whose chunk is in the buffer b, and the chunk's request.
 fn cut_session(s: Session, b: ReplayBuffer, crc32c: u32, n: usize) -> Sending
-    requires { ⌜ toℕ (s .«write_offset» .0) + n < 2 ^ 63 ⌝ }
+    requires { ⌜ (ltZ (s .«write_offset» .0) (pos 0) ≡ false) × (toℕ (s .«write_offset» .0) + n < 2 ^ 63) ⌝ }
     ensures { λ r. ⌜ CutSession s b crc32c n r ⌝ }
 {
     let limit = s.limit;
@@ -88,7 +91,7 @@ fn cut_session(s: Session, b: ReplayBuffer, crc32c: u32, n: usize) -> Sending
         limit,
     );
     let request = worker::chunk_request(write_offset, n, crc32c, flush);
-    let end = bidi_write::from_nat(bidi_write::to_nat(write_offset) + n as u64);
+    let end = bidi_write::plus(write_offset, n);
     let running_crc32c = join(running, crc32c, n);
     let worker = store_chunk(w, b, flush);
     let session = Session {

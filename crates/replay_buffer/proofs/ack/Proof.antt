@@ -1,28 +1,37 @@
 -- `replay_buffer::ack` meets its contract. Assumes nothing.
-use mathlib.Core.Path.{refl, sym, ap, _∙_}
+use mathlib.Core.Path.{_≡_, refl, ap, _∙_}
+use Prim.Native.Nat.{_-_}
 use borrow.Author.Needs.{needs}
-use lib.IntN.{pos}
-use Rattle.bidi_write.proofs.Signs.{pos-back}
-use Rattle.replay_buffer.specs.View.{lent}
+use lib.IntN.{ℤ, pos}
+use Rattle.bidi_write.specs.Numbers.{toℕ}
+use Rattle.bidi_write.proofs.Offsets.{minus-is}
+use Rattle.replay_buffer.specs.View.{lent, wordsOf}
+use Rattle.replay_buffer.specs.Ack.{Stored, frontOf}
 use Rattle.replay_buffer.proofs.Rest.{keeps-advanced}
-use Rattle.replay_buffer.proofs.Acking.{front-stored, acks-negative, acks-too-long, acks-trimmed}
+use Rattle.replay_buffer.proofs.Acking.{front-stored, acks-too-long, acks-trimmed}
 use Rattle.replay_buffer.proofs.ack.Statement.{statement}
 use Rattle.replay_buffer.proofs.ack.Tie as tie
 
-is-negative-requires : tie.Need-is-negative-requires
-is-negative-requires c κs = search needs
-
-returns : tie.Need-returns
-returns c =
-    let s = c .before .before .before .before in
+-- the chunks that go
+front : (c : tie.After-acknowledged)
+    → c .acknowledged .result
+    ≡ frontOf (c .before .before .before .before .before .args .persisted .0) (pos (toℕ (c .before .before .before .before .before .args .end .0) - c .before .before .before .before .before .args .b .«unpersisted_bytes»))
+    (wordsOf (lent (c .before .before .before .before .before .args .size) (c .before .before .before .before .before .args .slots)) (c .before .before .before .before .before .args .b) (c .before .before .before .before .before .args .table .now))
+front c =
+    let s = c .before .before .before .before .before in
     let a = s .args in
-    acks-negative (lent (a .size) (a .slots)) (a .b) (a .end) (a .store .now) (a .table .now) (s .pre) (a .persisted .0) (sym (c .before .is-negative .ensures) ∙ c .if1 .taken)
+    let o = c .before .before .minus .ensures ∙ minus-is (a .end .0) (a .b .«unpersisted_bytes») (s .pre .1) (s .pre .0 .started) in
+    c .acknowledged .ensures ∙ ap (λ (z : ℤ). frontOf (a .persisted .0) z (wordsOf (lent (a .size) (a .slots)) (a .b) (a .table .now))) o
 
-to-nat-requires : tie.Need-to-nat-requires
-to-nat-requires c κs = search needs
+-- they are stored
+stored : (c : tie.Else1) → Stored (c .before .before .before .before .before .before .before .before .args .b) (c .before .before .before .acknowledged .result)
+stored c =
+    let s = c .before .before .before .before .before .before .before .before in
+    let a = s .args in
+    front-stored (lent (a .size) (a .slots)) (a .b) (toℕ (a .end .0)) (a .store .now) (a .table .now) (s .pre .0) (a .persisted .0) (c .before .before .before .acknowledged .result) (front (c .before .before .before)) (c .if1 .left)
 
-sub-start : tie.Need-sub-start
-sub-start c = search needs
+minus-requires : tie.Need-minus-requires
+minus-requires c κs = search needs
 
 acknowledged-requires : tie.Need-acknowledged-requires
 acknowledged-requires c κs = search needs
@@ -30,55 +39,35 @@ acknowledged-requires c κs = search needs
 same-length : tie.Need-same-length
 same-length c = search needs
 
-returns-2 : tie.Need-returns-2
-returns-2 c =
-    let s = c .before .before .before .before .before .before .before .before .before .before in
+returns : tie.Need-returns
+returns c =
+    let s = c .before .before .before .before .before .before .before .before in
     let a = s .args in
-    let f = c .before .before .before .acknowledged in
-    acks-too-long (lent (a .size) (a .slots)) (a .b) (a .end) (a .store .now) (a .table .now) (s .pre) (a .persisted .0) (c .before .before .before .before .before .to-nat .result) (f .result) (f .ensures) (c .if2 .taken)
+    acks-too-long (lent (a .size) (a .slots)) (a .b) (toℕ (a .end .0)) (a .store .now) (a .table .now) (s .pre .0) (a .persisted .0) (c .before .before .before .acknowledged .result) (front (c .before .before .before)) (c .if1 .taken)
 
 advance-requires : tie.Need-advance-requires
-advance-requires c κs =
-    let s = c .before .before .before .before .before .before .before .before .before .before in
-    let a = s .args in
-    let f = c .before .before .before .acknowledged in
-    (front-stored (lent (a .size) (a .slots)) (a .b) (a .end) (a .store .now) (a .table .now) (s .pre) (c .before .before .before .before .before .to-nat .result) (f .result) (f .ensures) (c .if2 .left), (search needs, search needs))
+advance-requires c κs = (stored c, (search needs, search needs))
 
 trim-requires : tie.Need-trim-requires
 trim-requires c κs =
-    let s = c .before .before .before .before .before .before .before .before .before .before .before .before in
-    let a = s .args in
-    let f = c .before .before .before .before .before .acknowledged in
-    let st = front-stored (lent (a .size) (a .slots)) (a .b) (a .end) (a .store .now) (a .table .now) (s .pre) (c .before .before .before .before .before .before .before .to-nat .result) (f .result) (f .ensures) (c .before .before .if2 .left) in
-    rw (c .before .advance .ensures)
-    (keeps-advanced (lent (a .size) (a .slots)) (a .b) (f .result) (a .end) (a .store .now) (a .table .now) (s .pre) st (a .table .now) refl .fits)
+    let s = c .before .before .before .before .before .before .before .before .before .before in
+    let a = s .args in (
+      rw (c .before .advance .ensures)
+          (keeps-advanced (lent (a .size) (a .slots)) (a .b) (c .before .before .before .before .before .acknowledged .result) (toℕ (a .end .0)) (a .store .now) (a .table .now) (s .pre .0) (stored (c .before .before)) (a .table .now) refl .fits),
+      s .pre .1,
+    )
 
 same-length-2 : tie.Need-same-length-2
 same-length-2 c = search needs
 
-returns-3 : tie.Need-returns-3
-returns-3 c =
-    let s = c .before .before .before .before .before .before .before .before .before .before .before .before .before .before .before in
+returns-2 : tie.Need-returns-2
+returns-2 c =
+    let s = c .before .before .before .before .before .before .before .before .before .before .before .before .before in
     let a = s .args in
-    let f = c .before .before .before .before .before .before .before .before .acknowledged in
-    let p = c .before .before .before .before .before .before .before .before .before .before .to-nat in
-    let st = front-stored (lent (a .size) (a .slots)) (a .b) (a .end) (a .store .now) (a .table .now) (s .pre) (p .result) (f .result) (f .ensures) (c .before .before .before .before .before .if2 .left) in
-    let z = pos-back (a .persisted .0) (sym (c .before .before .before .before .before .before .before .before .before .before .before .before .is-negative .ensures) ∙ c .before .before .before .before .before .before .before .before .before .before .before .if1 .left) ∙ ap pos (sym (p .ensures .0)) in
-    acks-trimmed (lent (a .size) (a .slots)) (a .b) (a .end) (a .store .now) (a .table .now) (s .pre) (a .persisted .0) (p .result) (f .result) (f .ensures) (c .before .before .trim .result) (c .before .before .trim .last .1 .1 .1 .0) z st
-    (rw (c .before .before .before .before .advance .ensures) at (c .before .before .trim .ensures))
+    let t = c .before .before .trim in
+    acks-trimmed (lent (a .size) (a .slots)) (a .b) (toℕ (a .end .0)) (a .store .now) (a .table .now) (s .pre .0) (a .persisted .0) (c .before .before .before .before .before .before .before .before .acknowledged .result) (front (c .before .before .before .before .before .before .before .before)) (t .result) (t .last .1 .1 .1 .0) (stored (c .before .before .before .before .before))
+    (rw (c .before .before .before .before .advance .ensures) at (t .ensures))
 
 pub ack-spec : {M : Type 1} → statement M
 ack-spec =
-    tie.close
-    (tie.spec
-    is-negative-requires
-    returns
-    to-nat-requires
-    sub-start
-    acknowledged-requires
-    same-length
-    returns-2
-    advance-requires
-    trim-requires
-    same-length-2
-    returns-3)
+    tie.close (tie.spec minus-requires acknowledged-requires same-length returns advance-requires trim-requires same-length-2 returns-2)

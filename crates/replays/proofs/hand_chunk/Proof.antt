@@ -7,14 +7,11 @@ use Rattle.replays.proofs.hand_chunk.Tie as tie
 ring-size-requires : tie.Need-ring-size-requires
 ring-size-requires c κs = search needs
 
-to-nat-requires : tie.Need-to-nat-requires
-to-nat-requires c κs = search needs
-
 chunk-to-replay-requires : tie.Need-chunk-to-replay-requires
 chunk-to-replay-requires c κs =
-    let at-size = c .before .before .before in
+    let at-size = c .before .before in
     let g = at-size .before .before .before .before .before .pre in
-    rw (at-size .ring-size .ensures (g .capacity-top) (g .limit-top)) (search needs)
+    (rw (at-size .ring-size .ensures (g .capacity-top) (g .limit-top)) (search needs), g .offset-in)
 
 chunk-request-requires : tie.Need-chunk-request-requires
 chunk-request-requires c κs = search needs
@@ -30,13 +27,13 @@ same-length c = search needs
 
 returns : tie.Need-returns
 returns c =
-    let at-size = c .before .before .before .before .before .before .before .before .before .before in
+    let at-size = c .before .before .before .before .before .before .before .before .before in
     let start = at-size .before .before .before .before .before in
     let g = start .pre in
     let read = c .before .before .before .before .before .before .chunk-to-replay in
     rw (c .set-phase .ensures)
     (hands-chunk (start .args .s) (start .args .store .now) (start .args .table .now) (start .args .at) (start .args .out .now) (read .result)
-    (read .last .1 .1 .1 .1 .1 .1 .1 .1 .0) (rw (at-size .ring-size .ensures (g .capacity-top) (g .limit-top), c .before .before .before .before .before .before .before .before .to-nat .ensures .0) at (read .ensures)) (same-length c)
+    (read .last .1 .1 .1 .1 .1 .1 .1 .1 .0) (rw (at-size .ring-size .ensures (g .capacity-top) (g .limit-top)) at (read .ensures)) (same-length c)
     (c .before .before .chunk-request .result) (c .before .before .chunk-request .ensures)
     (c .before .advance .result) (c .before .advance .ensures))
 
@@ -45,7 +42,6 @@ hand-chunk-spec =
     tie.close
     (tie.spec
     ring-size-requires
-    to-nat-requires
     chunk-to-replay-requires
     chunk-request-requires
     advance-requires

@@ -13,14 +13,11 @@ complete-requires c κs = search needs
 ring-size-requires : tie.Need-ring-size-requires
 ring-size-requires c κs = search needs
 
-to-nat-requires : tie.Need-to-nat-requires
-to-nat-requires c κs = search needs
-
 ack-requires : tie.Need-ack-requires
 ack-requires c κs =
-    let at-size = c .before .before in
+    let at-size = c .before in
     let g = at-size .before .before .before .before .before .before .before .before .before .pre in
-    rw (at-size .ring-size .ensures (g .capacity-top) (g .limit-top)) (search needs)
+    (rw (at-size .ring-size .ensures (g .capacity-top) (g .limit-top)) (search needs), g .offset-in)
 
 absorb-requires : tie.Need-absorb-requires
 absorb-requires c κs = search needs
@@ -33,14 +30,14 @@ same-length c = search needs
 
 returns : tie.Need-returns
 returns c =
-    let s = c .before .before .before .before .before .before .before .before .before .before .before .before .before .before .before .before in
+    let s = c .before .before .before .before .before .before .before .before .before .before .before .before .before .before .before in
     let a = s .args in
-    let k = c .before .before .before .before .before .before .before .before .before .satisfied in
-    let q = c .before .before .before .before .before .before .before .before .complete in
+    let k = c .before .before .before .before .before .before .before .before .satisfied in
+    let q = c .before .before .before .before .before .before .before .complete in
     let ack = c .before .before .before .before .ack in
     rw (c .renew .ensures, c .before .absorb .ensures)
     (absorbs-size (a .n) (a .finalized) (a .s) (a .store .now) (a .table .now) (s .pre) (ack .result) (ack .last .1 .1 .1 .0)
-    (rw (c .before .before .before .before .before .before .before .ring-size .ensures (s .pre .capacity-top) (s .pre .limit-top), c .before .before .before .before .before .before .to-nat .ensures .0) at (ack .ensures)) (ack .kept .1 .1 .1 .0) (k .result) (k .ensures .0) (q .result) (q .ensures .0) (q .ensures .1))
+    (rw (c .before .before .before .before .before .before .ring-size .ensures (s .pre .capacity-top) (s .pre .limit-top)) at (ack .ensures)) (ack .kept .1 .1 .1 .0) (k .result) (k .ensures .0) (q .result) (q .ensures .0) (q .ensures .1))
 
 pub absorb-size-spec : {M : Type 1} → statement M
 absorb-size-spec =
@@ -49,7 +46,6 @@ absorb-size-spec =
     satisfied-requires
     complete-requires
     ring-size-requires
-    to-nat-requires
     ack-requires
     absorb-requires
     renew-requires

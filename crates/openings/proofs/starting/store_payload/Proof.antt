@@ -2,7 +2,8 @@
 use mathlib.Core.Path.{_≡_}
 use mathlib.Core.Bool.{true}
 use native.Mathlib.Omega.{arith}
-use borrow.Author.Tests.{not-true, not-false, ltb-false}
+use lib.ListN.{length}
+use borrow.Author.Tests.{not-true, not-false, ltb-false, le-ltb}
 use Rattle.openings.proofs.Payload.{stores-none, within, payload-room, pushed-fits, stores-some}
 use borrow.Author.Needs.{needs}
 use Rattle.openings.proofs.starting.store_payload.Statement.{statement}
@@ -40,19 +41,25 @@ push-requires c κs =
     rw (given .before .empty .ensures)
     (payload-room (a .store .now) (a .table .now) (p .0) (a .payload .now) (ltb-false _ _ (rw (not-false (a .present) (given .if1 .left)) at (p .1 .0))))
 
+from-nat-requires : tie.Need-from-nat-requires
+from-nat-requires c κs = search needs
+
 ack-requires : tie.Need-ack-requires
 ack-requires c κs =
-    let push = c .before .before .before .before in
+    let at-end = c .before .before in
+    let push = at-end .before .before .before in
     let copied = push .before .before .before .before in
     let given = copied .before .before in
     let start = given .before .before .before .before .before .before in
     let a = start .args in
     let p = start .pre in
     let present : a .present ≡ true = not-false (a .present) (given .if1 .left) in
-    let size = given .before .before .ring-size .ensures (p .0 .capacity-top) (p .0 .limit-top) in
-    rw size
-    (pushed-fits (a .store .now) (a .table .now) (p .0) (a .payload .now) (ltb-false _ _ (rw present at (p .1 .0))) (rw present at (p .1 .1))
-    (rw size at (copied .copy-in .ensures)) (rw (given .before .empty .ensures) at (push .push .ensures)) _ _ (omega arith) (omega arith))
+    let size = given .before .before .ring-size .ensures (p .0 .capacity-top) (p .0 .limit-top) in (
+      rw (size, at-end .from-nat .ensures)
+          (pushed-fits (a .store .now) (a .table .now) (p .0) (a .payload .now) (ltb-false _ _ (rw present at (p .1 .0))) (rw present at (p .1 .1))
+          (rw size at (copied .copy-in .ensures)) (rw (given .before .empty .ensures) at (push .push .ensures)) _ _ (omega arith) (omega arith)),
+      rw (at-end .from-nat .ensures) (le-ltb (length (a .payload .now)) 0 (omega arith)),
+    )
 
 same-length : tie.Need-same-length
 same-length c = search needs
@@ -63,7 +70,8 @@ same-length-2 c = search needs
 returns-2 : tie.Need-returns-2
 returns-2 c =
     let ack = c .before .before in
-    let push = ack .before .before .before .before .before in
+    let at-end = ack .before .before .before in
+    let push = at-end .before .before .before in
     let copied = push .before .before .before .before in
     let given = copied .before .before in
     let start = given .before .before .before .before .before .before in
@@ -73,7 +81,7 @@ returns-2 c =
     let size = given .before .before .ring-size .ensures (p .0 .capacity-top) (p .0 .limit-top) in
     rw present
     (stores-some (a .store .now) (a .table .now) (p .0) (a .payload .now) (ltb-false _ _ (rw present at (p .1 .0))) (rw present at (p .1 .1))
-    (rw size at (copied .copy-in .ensures)) (rw (given .before .empty .ensures) at (push .push .ensures)) (omega arith) (omega arith) (rw size at (ack .ack .ensures)))
+    (rw size at (copied .copy-in .ensures)) (rw (given .before .empty .ensures) at (push .push .ensures)) (omega arith) (omega arith) (rw (size, at-end .from-nat .ensures) at (ack .ack .ensures)))
 
 pub store-payload-spec : {M : Type 1} → statement M
 store-payload-spec =
@@ -84,6 +92,7 @@ store-payload-spec =
     returns
     copy-in-requires
     push-requires
+    from-nat-requires
     ack-requires
     same-length
     same-length-2
