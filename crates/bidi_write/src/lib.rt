@@ -1,4 +1,4 @@
-// Ported from google-cloud-storage 1.21.0, src/storage/bidi_write.rs (Apache-2.0); changed: no tasks, channels or heap.
+// Ported from google-cloud-storage 1.21.0, src/storage/bidi_write.rs, Copyright 2026 Google LLC (Apache-2.0); changed: no tasks, channels or heap.
 // The messages that a session sends and is told, its calls, and why it refuses one. Bytes stand beside a record: a request's data at the front of the out buffer,
 // what a call brings in slices.
 ghost use mathlib.Core.Path.{_≡_};

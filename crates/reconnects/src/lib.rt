@@ -1,4 +1,4 @@
-// Ported from google-cloud-storage 1.21.0, src/storage/bidi_write/connector.rs and retry_redirect.rs (Apache-2.0); changed: no tasks, channels or heap.
+// Ported from google-cloud-storage 1.21.0, src/storage/bidi_write/connector.rs and retry_redirect.rs, Copyright 2026 Google LLC (Apache-2.0); changed: no tasks, channels or heap.
 // Break, verdict and failed attempt: `Connector::reconnect` cut where the host dials, waits and judges.
 ghost use mathlib.Core.Path.{_≡_};
 ghost use mathlib.Core.Bool.{false, cond};

@@ -1,4 +1,4 @@
-// Ported from google-cloud-storage 1.21.0, src/storage/bidi_write/redirect.rs (Apache-2.0); changed: no tasks, channels or heap.
+// Ported from google-cloud-storage 1.21.0, src/storage/bidi_write/redirect.rs, Copyright 2026 Google LLC (Apache-2.0); changed: no tasks, channels or heap.
 ghost use mathlib.Core.Path.{_≡_};
 ghost use Rattle.bidi_write.specs.View.{breakOf};
 ghost use Rattle.rules.specs.Message as M;

@@ -1,4 +1,4 @@
-// Ported from google-cloud-storage 1.21.0, src/storage/bidi_write/replay_buffer.rs (Apache-2.0); changed: no tasks, channels or heap.
+// Ported from google-cloud-storage 1.21.0, src/storage/bidi_write/replay_buffer.rs, Copyright 2026 Google LLC (Apache-2.0); changed: no tasks, channels or heap.
 // Unacknowledged chunks: their bytes lie in a ring over the lent store, a word for each in a ring over the lent table.
 ghost use mathlib.Core.Path.{_≡_};
 ghost use mathlib.Core.Bool.{false};

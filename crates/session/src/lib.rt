@@ -1,3 +1,4 @@
+// Ported from google-cloud-storage 1.21.0, src/storage/bidi_write/transport.rs, Copyright 2026 Google LLC (Apache-2.0); changed: no tasks, channels or heap.
 // The host's calls: each is lent the session record, makes the core's call and stores what it left ("the host's outer calls are lent the session
 // record and update it"). A refused call leaves the record as it was, whatever it holds.
 pub mod shown;

@@ -1,4 +1,4 @@
-// Ported from google-cloud-storage 1.21.0, src/storage/bidi_write/transport.rs (Apache-2.0); changed: no tasks, channels or heap.
+// Ported from google-cloud-storage 1.21.0, src/storage/bidi_write/transport.rs, Copyright 2026 Google LLC (Apache-2.0); changed: no tasks, channels or heap.
 // Close: "needs the live phase and stored below capacity. Held bytes are not sent."
 ghost use Rattle.rules.specs.Session as R;
 ghost use Rattle.transport.specs.Promise.{Promised};

@@ -1,4 +1,4 @@
-// Ported from google-cloud-storage 1.21.0, src/storage/bidi_write/transport.rs (Apache-2.0); changed: no tasks, channels or heap.
+// Ported from google-cloud-storage 1.21.0, src/storage/bidi_write/transport.rs, Copyright 2026 Google LLC (Apache-2.0); changed: no tasks, channels or heap.
 // The session by value: its record and answers, what every call shares, and close. The other calls are in crates above this one.
 pub mod close;
 pub mod guard;

@@ -1,3 +1,4 @@
+// Ported from google-cloud-storage 1.21.0, src/storage/bidi_write/transport.rs and worker.rs, Copyright 2026 Google LLC (Apache-2.0); changed: no tasks, channels or heap.
 // The session record with a part anew, and a session that ends.
 ghost use mathlib.Core.Path.{_≡_};
 ghost use Rattle.transport.specs.Parts.{setPhase, setWorker, EndsAs};
