@@ -53,8 +53,10 @@ use Rattle.openings.specs.Opening.{Beside, beside, openingOf, openedAs}
 use Rattle.openings.specs.declared.Capacity.the-variants as capacity
 use Rattle.openings.specs.declared.Opening.{Opening}
 use Rattle.openings.specs.declared.OpenAnswer.the-variants as open-answer
+use Rattle.session.specs.Lent.{outcome}
 use Rattle.session.specs.Claim.{Ensures, Begins}
 use Rattle.session.proofs.Claim.{host-demand3}
+use Rattle.session.proofs.Tied.{ensures-all, opens-all}
 
 -- ---- the opening
 
@@ -218,24 +220,17 @@ valid-acknowledged = valid _ 1 _ _ _ _ _ _
 
 met-begins : Begins given opened
 unfolding computed openingOf view workerOf connectorOf specOf queueOf rot part waitersOf noWaiters
-met-begins = record {
-  opening = opening;
-  beside = names;
-  store = 0 ∷ 0 ∷ 0 ∷ [];
-  table = 0 ∷ [];
-  opened = openedAs (opened .session) open-answer.Opened;
-  given = refl;
-  left = refl;
-  ensured = record {
-    writer-is = refl;
-    opens-is = refl;
-    refuses = λ x e. let z : _≡_ {A = ℕ} 0 1 = cc in absurd (omega arith);
-    store-beyond = refl;
-    table-beyond = refl;
-    valid = λ _. valid-opened;
-  };
-  accepted = refl;
-}
+met-begins =
+    opens-all opening names (0 ∷ 0 ∷ 0 ∷ []) (0 ∷ []) (openedAs (opened .session) open-answer.Opened) (opened .store) (opened .table)
+    (record {
+      writer-is = refl;
+      opens-is = refl;
+      refuses = λ x e. let z : _≡_ {A = ℕ} 0 1 = cc in absurd (omega arith);
+      store-beyond = refl;
+      table-beyond = refl;
+      valid = λ _. valid-opened;
+    })
+    refl
 
 -- ---- the calls
 
@@ -263,27 +258,22 @@ cut = answer.Took 1 (maybe.Present (record {
 
 met-append : Does Ensures append opened (answerOf cut (97 ∷ [])) stored
 unfolding computed requestOf view workerOf connectorOf specOf queueOf rot part waitersOf noWaiters
-met-append = record {
-  out = 0 ∷ [];
-  out′ = 97 ∷ [];
-  answer = cut;
-  answer-is = refl;
-  says = (
-    record {
-      first = first-free append opened (0 ∷ []) _ _ _ _ refl refl valid-opened;
-      refuses = λ x e. let z : _≡_ {A = ℕ} 0 1 = cc in absurd (omega arith);
-      takes = omega arith;
-      store-beyond = refl;
-      table-beyond = refl;
-      out-beyond = refl;
-      sent-is = refl;
-      sent-in = omega arith;
-      steps = λ _. refl;
-      stays = λ _. valid-stored;
-    },
-    refl,
-  );
-}
+met-append =
+    ensures-all append opened (0 ∷ []) (outcome (stored .session) cut) (stored .store) (stored .table) (97 ∷ []) (
+      record {
+        first = first-free append opened (0 ∷ []) _ _ _ _ refl refl valid-opened;
+        refuses = λ x e. let z : _≡_ {A = ℕ} 0 1 = cc in absurd (omega arith);
+        takes = omega arith;
+        store-beyond = refl;
+        table-beyond = refl;
+        out-beyond = refl;
+        sent-is = refl;
+        sent-in = omega arith;
+        steps = λ _. refl;
+        stays = λ _. valid-stored;
+      },
+      refl,
+    )
 
 abbrev report : R.Call
 report = R.response (record { writeStatus = some (M.persistedSize (pos 1)); writeHandle = none })
@@ -293,27 +283,22 @@ taken = answer.Completes (record { waiters = 0; request = maybe.Absent })
 
 met-response : Does Ensures report stored (answerOf taken []) acknowledged
 unfolding computed view workerOf connectorOf specOf queueOf rot part waitersOf noWaiters
-met-response = record {
-  out = [];
-  out′ = [];
-  answer = taken;
-  answer-is = refl;
-  says = (
-    (λ out. record {
-      first = first-free report stored out _ _ _ _ refl refl valid-stored;
-      refuses = λ x e. let z : _≡_ {A = ℕ} 0 1 = cc in absurd (omega arith);
-      takes = omega arith;
-      store-beyond = refl;
-      table-beyond = refl;
-      out-beyond = refl;
-      sent-is = refl;
-      sent-in = omega arith;
-      steps = λ _. refl;
-      stays = λ _. valid-acknowledged;
-    }),
-    (refl, refl),
-  );
-}
+met-response =
+    ensures-all report stored [] (outcome (acknowledged .session) taken) (acknowledged .store) (acknowledged .table) [] (
+      (λ out. record {
+        first = first-free report stored out _ _ _ _ refl refl valid-stored;
+        refuses = λ x e. let z : _≡_ {A = ℕ} 0 1 = cc in absurd (omega arith);
+        takes = omega arith;
+        store-beyond = refl;
+        table-beyond = refl;
+        out-beyond = refl;
+        sent-is = refl;
+        sent-in = omega arith;
+        steps = λ _. refl;
+        stays = λ _. valid-acknowledged;
+      }),
+      (refl, refl),
+    )
 
 -- ---- the run
 

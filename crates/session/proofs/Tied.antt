@@ -59,7 +59,7 @@ Any c s r = (store : Bytes) (table : List ℕ) (out : Bytes) → Promises c (mem
 -- ---- what is tied here is all that is asked
 
 -- of a call
-ensures-all : (c : R.Call) (m : Memory) (out : Bytes) (r : Outcome) (store : Bytes) (table : List ℕ) (out′ : Bytes)
+pub ensures-all : (c : R.Call) (m : Memory) (out : Bytes) (r : Outcome) (store : Bytes) (table : List ℕ) (out′ : Bytes)
     → Ensured c m out r store table out′ × Unlent c m out store table out′ → Does Ensures c m (answerOf (r .answer) out′) (memory (r .session) store table)
 ensures-all c m out r store table out′ e = record { out = out; out′ = out′; answer = r .answer; answer-is = refl; says = e }
 
@@ -68,7 +68,7 @@ promises-all : (c : R.Call) (m : Memory) (out : Bytes) (r : Outcome) (store : By
 promises-all c m out r store table out′ p = record { out = out; out′ = out′; answer = r .answer; answer-is = refl; says = p }
 
 -- of an opening
-opens-all : (o : Opening) (b : Beside) (store : Bytes) (table : List ℕ) (r : Opened) (store′ : Bytes) (table′ : List ℕ)
+pub opens-all : (o : Opening) (b : Beside) (store : Bytes) (table : List ℕ) (r : Opened) (store′ : Bytes) (table′ : List ℕ)
     → OpenEnsured o b store table r store′ table′ → r .answer ≡ answer.Opened
     → Begins (openingOf o b (length store) (length table)) (memory (r .session) store′ table′)
 opens-all o b store table r store′ table′ e a =
