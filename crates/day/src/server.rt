@@ -1,5 +1,8 @@
 // The server and the present connection, by document 01's "Server rules". It sees requests and the bytes that they carry, and keeps of the bytes their
 // number and sum.
+ghost use Prim.Native.Nat.{_≤_};
+ghost use lib.ListN.{length};
+ghost use Rattle.bidi_write.specs.View.{lengthOf};
 use crate::chance;
 use crate::chance::minus;
 use crate::journal;
@@ -68,7 +71,9 @@ pub fn new(journal: u64) -> Server {
 impl Server {
     // ---- a request is taken
 
-    pub fn take(self, r: Request, out: &[u8], key: u64) -> Server {
+    pub fn take(self, r: Request, out: &[u8], key: u64) -> Server
+        requires { ⌜ lengthOf (r .«data») ≤ length (now out) ⌝ }
+    {
         let at = r.write_offset;
         let sum = r.object_checksums;
         let data = r.data;
@@ -79,11 +84,10 @@ impl Server {
     }
 
     // "A chunk joins the tail if its offset is the end of both and its sum is right, else the connection is cut."
-    fn take_chunk(self, c: ChecksummedData, at: u64, flush: bool, out: &[u8], key: u64) -> Server {
+    fn take_chunk(self, c: ChecksummedData, at: u64, flush: bool, out: &[u8], key: u64) -> Server
+        requires { ⌜ c .length ≤ length (now out) ⌝ }
+    {
         let n = c.length;
-        if out.len() < n {
-            return self.cuts(key);
-        }
         let bytes = &out[..n];
         if !self.continues(at, bytes, c.crc32c) {
             return self.cuts(key);

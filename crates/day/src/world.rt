@@ -1,4 +1,9 @@
 // The host, the link and the server together: what happens up to the host's next call, and what its answer leads to.
+ghost use mathlib.Core.Path.{_≡_};
+ghost use Prim.Native.Nat.{_≤_};
+ghost use lib.ListN.{length};
+ghost use Rattle.bidi_write.specs.View.{lengthOf};
+ghost use Rattle.transport.specs.View.{maybeLength, sentLength};
 use crate::bank;
 use crate::bank::Bank;
 use crate::bank::EVENTS;
@@ -231,7 +236,9 @@ fn greet(mut w: World) -> Move {
 
 // ---- its answer
 
-pub fn heard(mut w: World, a: Answer, out: &[u8]) -> World {
+pub fn heard(mut w: World, a: Answer, out: &[u8]) -> World
+    requires { ⌜ sentLength a ≤ length (now out) ⌝ }
+{
     let bank = w.bank.heard(a);
     w.bank = bank;
     let r = request_in(a);
@@ -241,7 +248,9 @@ pub fn heard(mut w: World, a: Answer, out: &[u8]) -> World {
     }
 }
 
-fn request_in(a: Answer) -> MaybeRequest {
+fn request_in(a: Answer) -> MaybeRequest
+    ensures { λ r. ⌜ maybeLength r ≡ sentLength a ⌝ }
+{
     match a {
         Answer::Refused(_) => MaybeRequest::Absent,
         Answer::Took(_, r) => r,
@@ -256,7 +265,9 @@ fn request_in(a: Answer) -> MaybeRequest {
 }
 
 // The host "sends each request once, on the present connection, or reports it failed". What is sent on a connection that was cut is lost with it.
-fn send(mut w: World, r: Request, out: &[u8]) -> World {
+fn send(mut w: World, r: Request, out: &[u8]) -> World
+    requires { ⌜ lengthOf (r .«data») ≤ length (now out) ⌝ }
+{
     if !w.server.alive {
         return sent(w, r, chance::one_in(w.key, 43, 2));
     }

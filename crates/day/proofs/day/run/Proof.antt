@@ -91,7 +91,10 @@ slice-aggregate-heard c = search needs
 
 -- src/day.rt:43:9
 heard-requires : tie.Need-heard-requires Inv-loop μ-loop
-heard-requires c κs = search needs
+heard-requires c κs =
+    let out = c .before .before in
+    let made = out .before .before .before in
+    omega (arith, made .step .ensures .sent-in, out .out2 .given)
 
 -- src/day.rt:44:31
 sub-calls-left : tie.Need-sub-calls-left Inv-loop μ-loop
