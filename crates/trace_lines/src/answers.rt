@@ -1,4 +1,8 @@
 // What a call answered, and every field of its request.
+ghost use Prim.Native.Nat.{_≤_};
+ghost use lib.ListN.{length};
+ghost use Rattle.bidi_write.specs.View.{lengthOf};
+ghost use Rattle.transport.specs.View.{maybeLength, sentLength};
 use bench_lines::Mark;
 use bidi_write::Call;
 use bidi_write::Checksum;
@@ -6,7 +10,6 @@ use bidi_write::Data;
 use bidi_write::Request;
 use openings::OpenAnswer;
 use trace_text::line;
-use trace_text::part;
 use trace_text::text;
 use transport::Answer;
 use transport::MaybeRequest;
@@ -16,7 +19,9 @@ pub fn opening(out: &mut [u8], n: usize, a: OpenAnswer) -> usize {
 }
 
 // The line that the bench program prints, and behind it the request's, or the end's. The request's data fill the front of `room`.
-pub fn answer(out: &mut [u8], n: usize, call: Call, a: Answer, room: &[u8]) -> usize {
+pub fn answer(out: &mut [u8], n: usize, call: Call, a: Answer, room: &[u8]) -> usize
+    requires { ⌜ sentLength a ≤ length (now room) ⌝ }
+{
     let n = line(out, n, bench_lines::line(mark(call), a, room));
     sent(out, n, a, room)
 }
@@ -37,7 +42,9 @@ fn mark(call: Call) -> Mark {
     }
 }
 
-fn sent(out: &mut [u8], n: usize, a: Answer, room: &[u8]) -> usize {
+fn sent(out: &mut [u8], n: usize, a: Answer, room: &[u8]) -> usize
+    requires { ⌜ sentLength a ≤ length (now room) ⌝ }
+{
     match a {
         Answer::Refused(_) => n,
         Answer::Took(_, r) => maybe_fields(out, n, r, room),
@@ -60,14 +67,18 @@ fn ends(out: &mut [u8], n: usize, completed: usize, failed: usize) -> usize {
     text(out, n, b"\n")
 }
 
-fn maybe_fields(out: &mut [u8], n: usize, r: MaybeRequest, room: &[u8]) -> usize {
+fn maybe_fields(out: &mut [u8], n: usize, r: MaybeRequest, room: &[u8]) -> usize
+    requires { ⌜ maybeLength r ≤ length (now room) ⌝ }
+{
     match r {
         MaybeRequest::Absent => n,
         MaybeRequest::Present(x) => fields(out, n, x, room),
     }
 }
 
-fn fields(out: &mut [u8], n: usize, r: Request, room: &[u8]) -> usize {
+fn fields(out: &mut [u8], n: usize, r: Request, room: &[u8]) -> usize
+    requires { ⌜ lengthOf (r .«data») ≤ length (now room) ⌝ }
+{
     let at = r.write_offset;
     let d = r.data;
     let sum = r.object_checksums;
@@ -78,12 +89,15 @@ fn fields(out: &mut [u8], n: usize, r: Request, room: &[u8]) -> usize {
     text(out, n, b"\n")
 }
 
-fn data(out: &mut [u8], n: usize, d: Data, room: &[u8]) -> usize {
+fn data(out: &mut [u8], n: usize, d: Data, room: &[u8]) -> usize
+    requires { ⌜ lengthOf d ≤ length (now room) ⌝ }
+{
     match d {
         Data::Absent => text(out, n, b" data=none"),
         Data::Checksummed(c) => {
             let n = text(out, n, b" data=");
-            let n = trace_text::hexes(out, n, part(room, 0, c.length));
+            let m = c.length;
+            let n = trace_text::hexes(out, n, &room[..m]);
             let n = text(out, n, b"/");
             trace_text::sum(out, n, c.crc32c)
         }

@@ -1,5 +1,6 @@
 -- `trace::script::follow` meets its contract: lengths stay, and the turns count down.
 use mathlib.Core.Path.{_≡_, _∙_}
+use native.Mathlib.Omega.{arith}
 use borrow.Author.Needs.{needs}
 use lib.ListN.{length}
 use Rattle.trace.proofs.script.follow.Statement.{statement}
@@ -62,7 +63,9 @@ step-requires : tie.Need-step-requires Inv-loop μ-loop
 step-requires c κs = search needs
 
 answer-requires : tie.Need-answer-requires Inv-loop μ-loop
-answer-requires c κs = search needs
+answer-requires c κs =
+    let made = c .before .before .before .before .before .before .before .before .before in
+    omega (arith, made .step .ensures .sent-in, made .step .kept .1 .1 .1 .1 .0)
 
 loop-less : tie.Need-loop-less Inv-loop μ-loop
 loop-less c = search (needs, c .before .before .before .before .before .before .before .before .before .before .before .before .before .before .before .before .before .before .before .before .before .before .before .before .before .before .before .before .before .before .before .before .before .before .before .before .before)
