@@ -1,4 +1,3 @@
 -- The lines of the bench program, in an order in which they can be read.
 pub mod Text
 pub mod View
-pub mod Example

@@ -8,7 +8,7 @@ use lib.ListN.{length}
 use Rattle.rules.specs.Message.{Bytes, Request}
 use Rattle.text.specs.Ascii.{ascii}
 use Rattle.text.specs.Decimal.{number, signed}
-use Rattle.rules.specs.Session.{Answer, refused, took, sends, waits, completes, attempt, ok, done, ends}
+use Rattle.rules.specs.Session.{Call, append, flush, finalise, nextRequest, close, sendFailed, response, handshake, break, judge, failedAttempt, Answer, refused, took, sends, waits, completes, attempt, ok, done, ends}
 use Rattle.rules.specs.Notes.{dataIn}
 use Rattle.bench_lines.specs.declared.Mark.{Mark}
 use Rattle.bench_lines.specs.declared.Mark.the-variants as mark
@@ -33,6 +33,19 @@ orDash none = ascii "-"
 orDash (some r) = request r
 
 -- ---- a call's answer
+
+abbrev pub markOf : Call → Mark
+markOf (append d out) = mark.Append
+markOf (flush out) = mark.Flush
+markOf (finalise out) = mark.Finalise
+markOf (nextRequest out) = mark.Next
+markOf close = mark.Close
+markOf sendFailed = mark.SendFailed
+markOf (response m) = mark.Response
+markOf (handshake m) = mark.Handshake
+markOf (break b) = mark.Break
+markOf (judge v) = mark.Verdict
+markOf (failedAttempt b v) = mark.FailedAttempt
 
 -- a call's mark, how *ok* prints behind it, and whether a request does behind a number
 pub record Form : Type 0 where

@@ -1,2 +1,8 @@
-pub mod Place
+pub mod Printed
+pub mod Example
+pub mod Stands
+pub mod Turn
+pub mod Feeds
 pub mod Gathers
+pub mod Run
+pub mod Whole

@@ -3,35 +3,19 @@ ghost use mathlib.Core.Path.{_≡_};
 ghost use Prim.Native.Nat.{_+_, _≤_};
 ghost use lib.ListN.{length};
 ghost use Rattle.text.specs.Line.{textOf};
-ghost use Rattle.bench_run.specs.Gathers.{waiting, Gathers};
+ghost use Rattle.bench_run.specs.Gathers.{Gathers};
 use libc::STDOUT_FILENO;
 use text::Line;
 
 // Puts a line behind the text, and tells where it ends.
 pub fn put(text: &mut [u8], used: usize, line: Line) -> usize
-    requires { ⌜ 96 ≤ length (now text) ⌝ }
-    requires { ⌜ used ≤ length (now text) ⌝ }
+    requires { ⌜ used + 96 ≤ length (now text) ⌝ }
     ensures { λ r. ⌜ Gathers (now (text .entry)) used (textOf line) (now (text .exit)) r ⌝ }
 {
     let bytes = line.bytes;
     let n = line.end();
-    let at = room(text, used, n);
-    bytes::copy(&bytes[..n], &mut text[at..]);
-    at + n
-}
-
-// Where the next n bytes go. A text that has no room for them is written.
-fn room(text: &[u8], used: usize, n: usize) -> usize
-    requires { ⌜ used ≤ length (now text) ⌝ }
-    requires { ⌜ n ≤ length (now text) ⌝ }
-    ensures { λ r. ⌜ r ≡ waiting (now (text .entry)) used n ⌝ }
-    ensures { λ r. ⌜ r + n ≤ length (now (text .entry)) ⌝ }
-{
-    if text.len() - used < n {
-        write(text, used);
-        return 0;
-    }
-    used
+    bytes::copy(&bytes[..n], &mut text[used..]);
+    used + n
 }
 
 pub fn write(text: &[u8], used: usize)

@@ -1,66 +1,36 @@
-// The records of a file, through a buffer.
+// The bytes of a file, through a buffer.
 ghost use mathlib.Core.Path.{_≡_};
 ghost use Prim.Native.Nat.{_+_, _-_, _≤_};
 ghost use lib.ListN.{length, take, drop};
-ghost use Rattle.bench_run.specs.Place.{Inside, FoundInside};
-use bench_records::Reading;
-use bench_records::Record;
+ghost use Rattle.bench_run.specs.Turn.{TurnInside};
+ghost use Rattle.bench_run.specs.Feeds.{Feeds};
+use crate::turns::Turn;
 
-// Where a record lies in the buffer: the bytes of an append are from..to, and behind them other bytes are at hand to the end.
-pub struct Place {
-    pub from: usize,
-    pub to: usize,
-    pub end: usize,
-}
-
-pub enum Found {
-    Record(Record, Place),
-    // A cut record, or no mark.
+// The bytes at hand, from..to; or no more come.
+pub enum Fed {
+    Bytes(usize, usize),
     Nothing,
 }
 
-// The record behind a place. Where the bytes at hand cut it, more are read once: what the full buffer cuts, the end of the input does.
-pub fn next(fd: i32, input: &mut [u8], p: Place) -> Found
-    requires { ⌜ Inside p (length (now input)) ⌝ }
-    ensures { λ r. ⌜ FoundInside r (length (now (input .entry))) ⌝ }
-{
-    let at = p.to;
-    let end = p.end;
-    match bench_records::read(&input[at..end]) {
-        Reading::Whole(r, n) => Found::Record(r, lies(at, n, end)),
-        Reading::Cut => {
-            let end = fill(fd, input, at, end);
-            first(input, end)
-        }
-        Reading::Unknown => Found::Nothing,
-    }
-}
-
-// The record at the buffer's start.
-fn first(input: &[u8], end: usize) -> Found
+// The bytes at hand for what is to be done next: where a record is to be read, more than were there. A cut record is shorter than the buffer, so that none comes
+// only where the file ends.
+pub fn feed(fd: i32, t: Turn, input: &mut [u8], at: usize, end: usize) -> Fed
+    requires { ⌜ at ≤ end ⌝ }
     requires { ⌜ end ≤ length (now input) ⌝ }
-    ensures { λ r. ⌜ FoundInside r end ⌝ }
+    requires { ⌜ TurnInside t (end - at) ⌝ }
+    ensures { λ r. ⌜ Feeds t at end (now (input .entry)) r (now (input .exit)) ⌝ }
 {
-    match bench_records::read(&input[..end]) {
-        Reading::Whole(r, n) => Found::Record(r, lies(0, n, end)),
-        Reading::Cut => Found::Nothing,
-        Reading::Unknown => Found::Nothing,
-    }
-}
-
-// The place of a record of n bytes: a mark and a length come before an append's own.
-fn lies(at: usize, n: usize, end: usize) -> Place
-    requires { ⌜ at + n ≤ end ⌝ }
-    ensures { λ r. ⌜ Inside r end ⌝ }
-{
-    let to = at + n;
-    if n < 4 {
-        return Place { from: to, to, end };
-    }
-    Place {
-        from: at + 4,
-        to,
-        end,
+    match t {
+        Turn::Call(_, _) => Fed::Bytes(at, end),
+        Turn::Read => {
+            let n = end - at;
+            let to = fill(fd, input, at, end);
+            if n < to {
+                return Fed::Bytes(0, to);
+            }
+            Fed::Nothing
+        }
+        Turn::End => Fed::Nothing,
     }
 }
 

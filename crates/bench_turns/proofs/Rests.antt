@@ -2,7 +2,8 @@
 -- Assumes nothing.
 use mathlib.Core.Path.{_≡_, refl, sym, ap, subst, _∙_}
 use mathlib.Core.Bool.{Bool, true, false, cond}
-use mathlib.Core.List.{List, [], _∷_}
+use mathlib.Core.Option.{Option, none, some}
+use mathlib.Core.List.{[]}
 use Prim.Native.Nat.{ℕ, _<_, _≤_}
 use native.Mathlib.Omega.{arith}
 use borrow.Author.Tests.{lt-ltb, le-ltb}
@@ -15,8 +16,7 @@ use Rattle.transport.specs.declared.Answer.{Answer}
 use Rattle.transport.specs.declared.Answer.the-variants as answer
 use Rattle.bench_records.specs.declared.CallRecord.{CallRecord}
 use Rattle.bench_records.specs.declared.CallRecord.the-variants as call
-use Rattle.bench_lines.specs.Example.{by, again}
-use Rattle.bench_turns.specs.Turn.{callOf, Continues}
+use Rattle.bench_turns.specs.Turn.{callOf, by, again, Continues}
 use Rattle.bench_turns.specs.declared.Rest.{Rest}
 use Rattle.bench_turns.specs.declared.Rest.the-variants as rest
 
@@ -46,24 +46,24 @@ by-out answer.Done out f y z = refl
 by-out (answer.Ends e) out f y z = refl
 
 -- what of an append is left behind n bytes
-abbrev behind : Bytes → ℕ → ℕ → List R.Call
-behind d out n = cond (ltb n (length d)) (R.append (drop n d) out ∷ []) []
+abbrev behind : Bytes → ℕ → ℕ → Option R.Call
+behind d out n = cond (ltb n (length d)) (some (R.append (drop n d) out)) none
 
-behind-at : (d : Bytes) (k n : ℕ) (t : Bool) → ltb n (length d) ≡ t → behind d k n ≡ cond t (R.append (drop n d) k ∷ []) []
-behind-at d k n t e = ap (λ (s : Bool). cond s (R.append (drop n d) k ∷ []) []) e
+behind-at : (d : Bytes) (k n : ℕ) (t : Bool) → ltb n (length d) ≡ t → behind d k n ≡ cond t (some (R.append (drop n d) k)) none
+behind-at d k n t e = ap (λ (s : Bool). cond s (some (R.append (drop n d) k)) none) e
 
 append-left : (a : Answer) (d : Bytes) {n : ℕ} → n ≡ by (answerOf a []) (λ m. m) (length d) (length d)
     → (k : ℕ) (out : Bytes) → behind d k n ≡ again (R.append d k) (answerOf a out)
 append-left a d e k out =
     let whole = behind-at d k (length d) false (le-ltb (length d) (length d) (omega arith)) in
     ap (behind d k) e ∙ by-map (behind d k) (answerOf a []) (λ m. m) (length d) (length d)
-    ∙ ap (λ (x : List R.Call). by (answerOf a []) (behind d k) x x) whole ∙ sym (by-out a out (behind d k) [] [])
+    ∙ ap (λ (x : Option R.Call). by (answerOf a []) (behind d k) x x) whole ∙ sym (by-out a out (behind d k) none none)
 
 cut-left : (a : Answer) {b : Bool} → b ≡ by (answerOf a []) (λ n. false) true false
-    → (q : R.Call) (out : Bytes) → cond b (q ∷ []) [] ≡ by (answerOf a out) (λ n. []) (q ∷ []) []
+    → (q : R.Call) (out : Bytes) → cond b (some q) none ≡ by (answerOf a out) (λ n. none) (some q) none
 cut-left a e q out =
-    ap (λ (s : Bool). cond s (q ∷ []) []) e ∙ by-map (λ (s : Bool). cond s (q ∷ []) []) (answerOf a []) (λ n. false) true false
-    ∙ sym (by-out a out (λ n. []) (q ∷ []) [])
+    ap (λ (s : Bool). cond s (some q) none) e ∙ by-map (λ (s : Bool). cond s (some q) none) (answerOf a []) (λ n. false) true false
+    ∙ sym (by-out a out (λ n. none) (some q) none)
 
 -- ---- by a record's call
 
@@ -78,7 +78,7 @@ module _ {d : Bytes} {a : Answer} where
   pub of : {c k : CallRecord} {r : Rest} → c ≡ k → Continues k d a r → Continues c d a r
   of {r = r} e w = subst (λ (x : CallRecord). Continues x d a r) (sym e) w
 
-  pub nothing : {k : CallRecord} → ((n : ℕ) (x : R.Answer) → again (callOf k d n) x ≡ []) → Continues k d a rest.Nothing
+  pub nothing : {k : CallRecord} → ((n : ℕ) (x : R.Answer) → again (callOf k d n) x ≡ none) → Continues k d a rest.Nothing
   nothing h = record { rest-is = λ n out. sym (h n (answerOf a out)); within = λ m f. none-from m f }
 
   module _ {n : ℕ} (e : n ≡ by (answerOf a []) (λ m. m) (length d) (length d)) where
@@ -94,10 +94,10 @@ module _ {d : Bytes} {a : Answer} where
       within = λ m f. none-from m f;
     }
 
-  module _ (k : CallRecord) (same : (n : ℕ) → callOf k (drop 0 d) n ≡ callOf k d n) (is : (n : ℕ) (x : R.Answer) → again (callOf k d n) x ≡ by x (λ m. []) (callOf k d n ∷ []) []) where
+  module _ (k : CallRecord) (same : (n : ℕ) → callOf k (drop 0 d) n ≡ callOf k d n) (is : (n : ℕ) (x : R.Answer) → again (callOf k d n) x ≡ by x (λ m. none) (some (callOf k d n)) none) where
     cut-at : (b : Bool) → b ≡ by (answerOf a []) (λ m. false) true false → Continues k d a (cond b (rest.From 0) rest.Nothing)
     cut-at true e = record {
-      rest-is = λ n out. ap (λ (q : R.Call). q ∷ []) (same n) ∙ cut-left a e (callOf k d n) out ∙ sym (is n (answerOf a out));
+      rest-is = λ n out. ap some (same n) ∙ cut-left a e (callOf k d n) out ∙ sym (is n (answerOf a out));
       within = λ m f. let g = same-from 0 m f in omega arith;
     }
     cut-at false e = record { rest-is = λ n out. cut-left a e (callOf k d n) out ∙ sym (is n (answerOf a out)); within = λ m f. none-from m f }

@@ -1,9 +1,11 @@
 -- What a record of the bench program makes of the session.
 use mathlib.Core.Path.{_≡_}
-use mathlib.Core.Option.{none}
-use mathlib.Core.List.{List, [], _∷_}
+use mathlib.Core.Bool.{cond}
+use mathlib.Core.Option.{Option, none, some}
+use mathlib.Core.List.{List, []}
 use Prim.Native.Nat.{ℕ, _≤_}
 use lib.ListN.{length, drop}
+use lib.Dec.{ltb}
 use lib.IntN.{ℤ}
 use Rattle.rules.specs.Message.{Bytes, endOfStream}
 use Rattle.rules.specs.Session as R
@@ -17,8 +19,7 @@ use Rattle.openings.specs.Opening.{OpensAs}
 use Rattle.openings.specs.declared.Opened.{Opened}
 use Rattle.bench_records.specs.declared.CallRecord.{CallRecord}
 use Rattle.bench_records.specs.declared.CallRecord.the-variants as call
-use Rattle.bench_lines.specs.Text.{lineOf}
-use Rattle.bench_lines.specs.Example.{markOf, again}
+use Rattle.bench_lines.specs.Text.{markOf, lineOf}
 use Rattle.bench_turns.specs.declared.Rest.{Rest}
 use Rattle.bench_turns.specs.declared.Rest.the-variants as rest
 
@@ -52,11 +53,37 @@ Makes c d s store table out r store′ table′ out′ = Promise (callOf c d (le
 
 -- ---- what is still to be called, and its line
 
-abbrev pub restOf : Rest → CallRecord → Bytes → ℕ → List R.Call
-restOf (rest.From n) c d out = callOf c (drop n d) out ∷ []
-restOf rest.Nothing c d out = []
+-- an append's bytes taken, a flush's or finalise's held bytes cut, or another answer
+abbrev pub by : {A : Type 0} → R.Answer → (ℕ → A) → A → A → A
+by (R.refused n) taken cut other = other
+by (R.took n r) taken cut other = taken n
+by (R.sends r) taken cut other = cut
+by (R.waits r n) taken cut other = other
+by (R.completes k r) taken cut other = other
+by (R.attempt n) taken cut other = other
+by R.ok taken cut other = other
+by R.done taken cut other = other
+by (R.ends c k n) taken cut other = other
 
--- "AP, FL and FI are called once, then again till done or refused"
+-- "AP, FL and FI are called once, then again till done or refused": what is still to be called after an answer
+abbrev pub again : R.Call → R.Answer → Option R.Call
+again (R.append d out) a = by a (λ n. cond (ltb n (length d)) (some (R.append (drop n d) out)) none) none none
+again (R.flush out) a = by a (λ n. none) (some (R.flush out)) none
+again (R.finalise out) a = by a (λ n. none) (some (R.finalise out)) none
+again (R.nextRequest out) a = none
+again R.close a = none
+again R.sendFailed a = none
+again (R.response m) a = none
+again (R.handshake m) a = none
+again (R.break b) a = none
+again (R.judge v) a = none
+again (R.failedAttempt b v) a = none
+
+abbrev pub restOf : Rest → CallRecord → Bytes → ℕ → Option R.Call
+restOf (rest.From n) c d out = some (callOf c (drop n d) out)
+restOf rest.Nothing c d out = none
+
+-- what the code found to be still called
 pub record Continues (c : CallRecord) (d : Bytes) (a : Answer) (r : Rest) : Type 0 where
   pub rest-is : (n : ℕ) (out : Bytes) → restOf r c d n ≡ again (callOf c d n) (answerOf a out)
   pub within : (n : ℕ) → r ≡ rest.From n → n ≤ length d

@@ -1,38 +1,44 @@
--- `bench_run::follow` is safe and ends: what is left is the turns.
+-- `bench_run::follow` is safe and ends: what is left is the turns of the loop. The session stays valid, and the turn within the bytes at hand.
 -- Assumes nothing.
-use mathlib.Core.Path.{_≡_, refl, _∙_}
-use Prim.Native.Nat.{_≤_}
+use mathlib.Core.Path.{_≡_, refl, sym, subst, _∙_}
+use Prim.Native.Nat.{_+_, _-_, _≤_}
 use native.Mathlib.Omega.{arith}
-use lib.ListN.{length}
 use borrow.Author.Needs.{needs}
-use Rattle.bench_run.specs.Place.{Inside, TurnInside}
-use Rattle.bench_run.proofs.Places.{turn-inside, turn-as}
+use mir.Facts.{fits-le}
+use lib.ListN.{length, take, drop, length-drop}
+use Rattle.transport.specs.Valid.{Valid}
+use Rattle.bench_run.specs.Turn.{TurnInside, Ready}
+use Rattle.bench_run.specs.Feeds.{Feeding}
+use Rattle.bench_run.proofs.Gathering.{part-length}
+use Rattle.bench_run.proofs.Feeding.{fed-some}
+use Rattle.bench_run.proofs.Playing.{found-inside}
 use Rattle.bench_run.proofs.follow.Statement.{statement}
 use Rattle.bench_run.proofs.follow.Tie as tie
 
 abbrev Inv-loop : tie.InvT-loop
-Inv-loop fd input₀ store₀ table₀ out₀ text₀ used s₀ used₀ turn₀ left₀ input store table out text s used' turn left =
+Inv-loop fd end input₀ store₀ table₀ out₀ text₀ s₀ turn₀ at₀ end₀ used₀ left₀ input store table out text s turn at end' used left =
     (length input ≡ length input₀) × (length store ≡ length store₀) × (length table ≡ length table₀) × (length out ≡ length out₀) × (length text ≡ length text₀)
-    × (used' ≤ length text) × TurnInside turn (length input)
+    × (length out ≡ 8192) × (used ≤ length text) × (at ≤ end') × (end' ≤ length input) × TurnInside turn (end' - at) × Valid s store table
 
 abbrev μ-loop : tie.MeasureT-loop
-μ-loop fd input₀ store₀ table₀ out₀ text₀ used s₀ used₀ turn₀ left₀ input store table out text s used' turn left = left
-
--- the place of a call
-inside : (c : tie.After-turn Inv-loop μ-loop) → Inside (c .turn .given .0 .1 .0) (length (c .before .before .before .loop .input))
-inside c = turn-inside (length (c .before .before .before .loop .input)) (c .turn .given .1) (c .before .before .before .loop .inv .6)
-
-next-turn-requires : tie.Need-next-turn-requires Inv-loop μ-loop
-next-turn-requires c κs = search needs
+μ-loop fd end input₀ store₀ table₀ out₀ text₀ s₀ turn₀ at₀ end₀ used₀ left₀ input store table out text s turn at end' used left = left
 
 loop-holds : tie.Need-loop-holds Inv-loop μ-loop
-loop-holds c = (refl, refl, refl, refl, refl, c .before .before .before .before .before .before .before .before .before .pre .1 .1, turn-as (c .before .before .next-turn .result) (c .before .before .next-turn .kept .1 .0) (c .before .before .next-turn .ensures))
+loop-holds c =
+    let p = c .before .before .before .before .before .before .pre in
+    (refl, refl, refl, refl, refl, p .1 .0, p .1 .1 .0, p .1 .1 .1 .0, p .1 .1 .1 .1 .0, p .1 .1 .1 .1 .1, p .0)
 
 sub-left : tie.Need-sub-left Inv-loop μ-loop
 sub-left c = search needs
 
-enum-known-turn : tie.Need-enum-known-turn Inv-loop μ-loop
-enum-known-turn c = search needs
+write-requires : tie.Need-write-requires Inv-loop μ-loop
+write-requires c κs = c .before .before .loop .inv .6
+
+feed-requires : tie.Need-feed-requires Inv-loop μ-loop
+feed-requires c κs = let inv = c .before .before .before .before .loop .inv in (inv .7, (inv .8, inv .9))
+
+enum-known-from : tie.Need-enum-known-from Inv-loop μ-loop
+enum-known-from c = search needs
 
 enum-told : tie.Need-enum-told Inv-loop μ-loop
 enum-told c = search needs
@@ -55,39 +61,66 @@ same-length-5 c = search needs
 returns : tie.Need-returns Inv-loop μ-loop
 returns c = search needs
 
-sub-call : tie.Need-sub-call Inv-loop μ-loop
-sub-call c = inside (c .before) .0
+-- the bytes at hand
+there : (c : tie.After-known-told Inv-loop μ-loop)
+    → Feeding (c .before .before .before .before .before .before .before .before .before .before .loop .turn) (c .before .before .before .before .before .before .before .before .before .before .loop .at) (c .before .before .before .before .before .before .before .before .before .before .loop .end) (c .before .before .before .before .before .before .before .before .before .before .loop .input) (c .before .from .given .0 .0) (c .before .from .given .0 .1 .0) (c .before .before .before .before .before .feed .last .1 .1 .0)
+there c = let l = c .before .before .before .before .before .before .before .before .before .before .loop in fed-some (l .turn) (l .at) (l .end) (l .input) _ (c .before .from .given .1) (c .before .before .before .before .before .feed .ensures)
 
-part-call-start : tie.Need-part-call-start Inv-loop μ-loop
-part-call-start c = inside (c .before .before) .0
+sub-play : tie.Need-sub-play Inv-loop μ-loop
+sub-play c = there c .from-in
 
-part-call-end : tie.Need-part-call-end Inv-loop μ-loop
-part-call-end c = omega (arith, inside (c .before .before))
+part-play-start : tie.Need-part-play-start Inv-loop μ-loop
+part-play-start c = there (c .before) .from-in
 
-call-requires : tie.Need-call-requires Inv-loop μ-loop
-call-requires c κs = search needs
+part-play-end : tie.Need-part-play-end Inv-loop μ-loop
+part-play-end c = omega (arith, there (c .before) .inside, c .before .before .before .before .before .before .feed .kept .1 .1 .0)
 
-line-requires : tie.Need-line-requires Inv-loop μ-loop
-line-requires c κs = search needs
+play-requires : tie.Need-play-requires Inv-loop μ-loop
+play-requires c κs =
+    let inv = c .before .before .before .before .before .before .before .before .before .before .before .before .before .before .before .before .loop .inv in
+    let f = there (c .before .before .before .before .before .before) in
+    (inv .10, (inv .5, subst (Ready (c .before .before .before .before .before .before .before .before .before .before .before .before .before .before .before .before .loop .turn)) (sym (part-length (c .before .before .before .before .before .before .before .before .before .before .before .feed .last .1 .1 .0) (c .before .before .before .before .before .before .before .from .given .0 .0) (c .before .before .before .before .before .before .before .from .given .0 .1 .0) (f .from-in) (omega (arith, f .inside, c .before .before .before .before .before .before .before .before .before .before .before .feed .kept .1 .1 .0)))) (f .ready)))
 
-put-requires : tie.Need-put-requires Inv-loop μ-loop
-put-requires c κs =
-    let inv = c .before .before .before .before .before .before .before .before .before .before .before .before .before .before .before .before .before .before .before .before .loop .inv in
-    (omega (arith, inv .4, c .before .before .before .before .before .before .before .before .before .before .before .before .before .before .before .before .before .before .before .before .before .before .before .before .before .before .before .before .before .before .pre .1), inv .5)
+-- what was played of them
+behind : (c : tie.After-struct-known Inv-loop μ-loop) → c .before .before .before .before .before .before .before .before .before .before .before .before .before .before .before .before .before .before .from .given .0 .0 + c .before .before .before .before .before .before .before .before .before .before .play .result .at ≤ c .before .before .before .before .before .before .before .before .before .before .before .before .before .before .before .before .before .before .from .given .0 .1 .0
+behind c =
+    let f = there (c .before .before .before .before .before .before .before .before .before .before .before .before .before .before .before .before .before) in
+    omega (arith, f .from-in, c .before .before .before .before .before .before .before .before .before .before .play .ensures .at-in, part-length (c .before .before .before .before .before .before .before .before .before .before .before .before .before .before .before .before .before .before .before .before .before .before .feed .last .1 .1 .0) (c .before .before .before .before .before .before .before .before .before .before .before .before .before .before .before .before .before .before .from .given .0 .0) (c .before .before .before .before .before .before .before .before .before .before .before .before .before .before .before .before .before .before .from .given .0 .1 .0) (f .from-in) (omega (arith, f .inside, c .before .before .before .before .before .before .before .before .before .before .before .before .before .before .before .before .before .before .before .before .before .before .feed .kept .1 .1 .0)))
 
-after-requires : tie.Need-after-requires Inv-loop μ-loop
-after-requires c κs = inside (c .before .before .before .before .before .before .before .before .before .before .before .before .before .before .before .before .before .before .before .before .before)
+behind-length : (c : tie.After-struct-known Inv-loop μ-loop)
+    → length (drop (c .before .before .before .before .before .before .before .before .before .before .play .result .at) (take (c .before .before .before .before .before .before .before .before .before .before .before .before .before .before .before .before .before .before .from .given .0 .1 .0 - c .before .before .before .before .before .before .before .before .before .before .before .before .before .before .before .before .before .before .from .given .0 .0) (drop (c .before .before .before .before .before .before .before .before .before .before .before .before .before .before .before .before .before .before .from .given .0 .0) (c .before .before .before .before .before .before .before .before .before .before .before .before .before .before .before .before .before .before .before .before .before .before .feed .last .1 .1 .0)))) ≡ c .before .before .before .before .before .before .before .before .before .before .before .before .before .before .before .before .before .before .from .given .0 .1 .0 - (c .before .before .before .before .before .before .before .before .before .before .before .before .before .before .before .before .before .before .from .given .0 .0 + c .before .before .before .before .before .before .before .before .before .before .play .result .at)
+behind-length c =
+    let f = there (c .before .before .before .before .before .before .before .before .before .before .before .before .before .before .before .before .before) in
+    let x = take (c .before .before .before .before .before .before .before .before .before .before .before .before .before .before .before .before .before .before .from .given .0 .1 .0 - c .before .before .before .before .before .before .before .before .before .before .before .before .before .before .before .before .before .before .from .given .0 .0) (drop (c .before .before .before .before .before .before .before .before .before .before .before .before .before .before .before .before .before .before .from .given .0 .0) (c .before .before .before .before .before .before .before .before .before .before .before .before .before .before .before .before .before .before .before .before .before .before .feed .last .1 .1 .0)) in
+    omega (arith, length-drop (c .before .before .before .before .before .before .before .before .before .before .play .result .at) x, part-length (c .before .before .before .before .before .before .before .before .before .before .before .before .before .before .before .before .before .before .before .before .before .before .feed .last .1 .1 .0) (c .before .before .before .before .before .before .before .before .before .before .before .before .before .before .before .before .before .before .from .given .0 .0) (c .before .before .before .before .before .before .before .before .before .before .before .before .before .before .before .before .before .before .from .given .0 .1 .0) (f .from-in) (omega (arith, f .inside, c .before .before .before .before .before .before .before .before .before .before .before .before .before .before .before .before .before .before .before .before .before .before .feed .kept .1 .1 .0)))
+
+add-at : tie.Need-add-at Inv-loop μ-loop
+add-at c =
+    let f = there (c .before .before .before .before .before .before .before .before .before .before .before .before .before .before .before .before .before) in
+    let h : c .before .before .before .before .before .before .before .before .before .before .before .before .before .before .before .before .before .before .from .given .0 .0 + c .before .before .before .before .before .before .before .before .before .before .play .result .at ≤ length (c .before .before .before .before .before .before .before .before .before .before .before .before .before .before .before .before .before .before .before .before .before .before .before .before .before .before .before .before .before .before .before .before .before .before .args .input .now) = omega (arith, behind c, f .inside, c .before .before .before .before .before .before .before .before .before .before .before .before .before .before .before .before .before .before .before .before .before .before .before .before .before .before .before .loop .inv .0) in
+    fits-le h (search (needs, c .before .before .before .before .before .before .before .before .before .before .before .before .before .before .before .before .before .before .before .before .before .before .before .before .before .before .before .before .before .before .before .before .before .before .good .1 .1 .1 .0 .0))
 
 loop-less : tie.Need-loop-less Inv-loop μ-loop
 loop-less c = omega (arith, c .before .before .before .before .before .before .before .before .before .before .before .before .before .before .before .before .before .before .before .before .before .before .before .before .before .before .loop-test .taken)
 
 loop-again : tie.Need-loop-again Inv-loop μ-loop
 loop-again c =
-    let inv = c .before .before .before .before .before .before .before .before .before .before .before .before .before .before .before .before .before .before .before .before .before .before .before .before .before .before .before .loop .inv in
-    let call = c .before .before .before .before .before .before .before .before .before .before .before .before .before .before .before .before .before .call in
-    let put = c .before .before .before .before .before .before .put in
-    let after = c .before .before .after in
-    (after .kept .1 .0 ∙ inv .0, call .kept .1 .1 .1 .0 ∙ inv .1, call .kept .1 .1 .1 .1 .0 ∙ inv .2, call .kept .1 .1 .1 .1 .1 .0 ∙ inv .3, put .kept .0 ∙ inv .4, omega (arith, put .kept .0, put .ensures .inside), turn-as (after .result) (after .kept .1 .0) (after .ensures))
+    let l = c .before .before .before .before .before .before .before .before .before .before .before .before .before .before .before .before .before .before .before .before .before .before .before .before .before .before .before .loop in
+    let f = there (c .before .before .before .before .before .before .before .before .before .before .before .before .before .before .before .before .before) in
+    let play = c .before .before .before .before .before .before .before .before .before .before .play in
+    let fed = c .before .before .before .before .before .before .before .before .before .before .before .before .before .before .before .before .before .before .before .before .before .before .feed in (
+      fed .kept .1 .1 .0 ∙ l .inv .0,
+      play .kept .1 .1 .1 .0 ∙ l .inv .1,
+      play .kept .1 .1 .1 .1 .0 ∙ l .inv .2,
+      play .kept .1 .1 .1 .1 .1 .0 ∙ l .inv .3,
+      play .kept .1 .1 .1 .1 .1 .1 .0 ∙ l .inv .4,
+      play .kept .1 .1 .1 .1 .1 .0 ∙ l .inv .5,
+      omega (arith, play .kept .1 .1 .1 .1 .1 .1 .0, play .ensures .used-in),
+      omega (arith, behind c),
+      omega (arith, f .inside, fed .kept .1 .1 .0),
+      found-inside (play .result .turn) _ (behind-length c) (play .ensures .found),
+      play .ensures .valid,
+    )
 
 same-length-6 : tie.Need-same-length-6 Inv-loop μ-loop
 same-length-6 c = search needs
@@ -113,10 +146,11 @@ follow-spec =
     (tie.spec
     Inv-loop
     μ-loop
-    next-turn-requires
     loop-holds
     sub-left
-    enum-known-turn
+    write-requires
+    feed-requires
+    enum-known-from
     enum-told
     same-length
     same-length-2
@@ -124,13 +158,11 @@ follow-spec =
     same-length-4
     same-length-5
     returns
-    sub-call
-    part-call-start
-    part-call-end
-    call-requires
-    line-requires
-    put-requires
-    after-requires
+    sub-play
+    part-play-start
+    part-play-end
+    play-requires
+    add-at
     loop-less
     loop-again
     same-length-6
