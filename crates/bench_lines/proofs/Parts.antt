@@ -1,5 +1,5 @@
 -- The parts of a line in the words of the definitions.
-use mathlib.Core.Path.{_≡_, sym, ap, _∙_}
+use mathlib.Core.Path.{_≡_, refl, sym, ap, _∙_, subst}
 use mathlib.Core.Bool.{Bool, true, false, _||_}
 use mathlib.Core.Option.{Option}
 use mathlib.Core.List.{_++_}
@@ -8,11 +8,10 @@ use native.Mathlib.Omega.{arith}
 use lib.ListN.{length, length-take}
 use Rattle.rules.specs.Message.{Bytes, Request}
 use Rattle.rules.specs.Notes.{contentOf}
-use Rattle.bidi_write.specs.View.{dataOf}
-use Rattle.bidi_write.specs.declared.ChecksummedData.{ChecksummedData}
+use Rattle.bidi_write.specs.View.{dataOf, lengthOf}
 use Rattle.bidi_write.specs.declared.Data.{Data}
 use Rattle.bidi_write.specs.declared.Data.the-variants as payload
-use Rattle.transport.specs.View.{maybeOf, answerOf}
+use Rattle.transport.specs.View.{maybeOf, answerOf, maybeLength, sentLength}
 use Rattle.transport.specs.declared.Answer.{Answer}
 use Rattle.transport.specs.declared.MaybeRequest.{MaybeRequest}
 use Rattle.text.specs.Ascii.{ascii}
@@ -37,12 +36,10 @@ module _ {h b : Bool} (p : b ≡ h) (n : ℕ) (r : Option Request) where
   pub counted-alone : b ≡ false → number n ≡ counted h n r
   counted-alone t = rw (sym p ∙ t)
 
-module _ {d : Data} {x : ChecksummedData} (out : Bytes) (is : d ≡ payload.Checksummed x) where
-  pub data-front : x .length ≤ length out → x .length ≡ length (contentOf (dataOf d out))
-  data-front h = rw (is, length-take) (omega arith)
-
-  pub data-all : length out ≤ x .length → length out ≡ length (contentOf (dataOf d out))
-  data-all h = rw (is, length-take) (omega arith)
+-- out has room for the data
+pub data-in : (d : Data) (out : Bytes) → lengthOf d ≤ length out → lengthOf d ≡ length (contentOf (dataOf d out))
+data-in payload.Absent out h = refl
+data-in (payload.Checksummed d) out h = rw length-take (omega arith)
 
 -- an answer or a request that is known by its variant
 pub met : (m : Mark) (out : Bytes) {a b : Answer} {l r : Line} → a ≡ b → Adds l (says (formOf m) (answerOf b out)) r → Adds l (says (formOf m) (answerOf a out)) r
@@ -50,3 +47,10 @@ met m out e = reworded (ap (λ (x : Answer). says (formOf m) (answerOf x out)) (
 
 pub met-request : (out : Bytes) {a b : MaybeRequest} {l r : Line} → a ≡ b → Adds l (orDash (maybeOf b out)) r → Adds l (orDash (maybeOf a out)) r
 met-request out e = reworded (ap (λ (x : MaybeRequest). orDash (maybeOf x out)) (sym e))
+
+-- and so is the length of its data
+pub sent : (out : Bytes) {a b : Answer} → a ≡ b → sentLength a ≤ length out → sentLength b ≤ length out
+sent out e h = subst (λ (x : Answer). sentLength x ≤ length out) e h
+
+pub present : (out : Bytes) {a b : MaybeRequest} → a ≡ b → maybeLength a ≤ length out → maybeLength b ≤ length out
+present out e h = subst (λ (x : MaybeRequest). maybeLength x ≤ length out) e h

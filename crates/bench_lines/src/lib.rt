@@ -2,7 +2,10 @@
 mod words;
 
 ghost use mathlib.Core.Path.{_≡_};
-ghost use Rattle.transport.specs.View.{answerOf};
+ghost use Prim.Native.Nat.{_≤_};
+ghost use lib.ListN.{length};
+ghost use Rattle.rules.specs.Message.{Bytes};
+ghost use Rattle.transport.specs.View.{answerOf, sentLength};
 ghost use Rattle.bench_lines.specs.Text.{lineOf};
 ghost use Rattle.text.specs.Line.{textOf};
 ghost use Rattle.bench_lines.specs.View.{openAnswerOf};
@@ -29,11 +32,11 @@ pub enum Mark {
     FailedAttempt,
 }
 
-// The line that a call's answer prints, with its end; the bytes of a request's data are at the front of out.
-pub fn line(mark: Mark, answer: Answer, out: &[u8]) -> Line
-    ensures { λ r. ⌜ textOf r ≡ lineOf mark (answerOf answer (now (out .entry))) ⌝ }
+// The line that a call's answer prints, with its end. The data of its request is in an out buffer that has room for it.
+pub fn line(mark: Mark, answer: Answer) -> Line
+    ensures { λ r. ⌜ ((out : Bytes) → sentLength answer ≤ length out → textOf r ≡ lineOf mark (answerOf answer out)) ⌝ }
 {
-    says(begun(mark), mark, answer, out).byte(b'\n')
+    says(begun(mark), mark, answer).byte(b'\n')
 }
 
 // The line that an opening's answer prints.

@@ -1,11 +1,12 @@
 // What a line says.
 ghost use mathlib.Core.Path.{_≡_};
 ghost use mathlib.Core.List.{[], _∷_, _++_};
+ghost use Prim.Native.Nat.{_≤_};
 ghost use lib.ListN.{length};
-ghost use Rattle.rules.specs.Notes.{contentOf};
-ghost use Rattle.bidi_write.specs.View.{dataOf, requestOf};
+ghost use Rattle.rules.specs.Message.{Bytes};
+ghost use Rattle.bidi_write.specs.View.{lengthOf, requestOf};
 ghost use Rattle.bidi_write.specs.Refusal.{numberOf};
-ghost use Rattle.transport.specs.View.{maybeOf, answerOf};
+ghost use Rattle.transport.specs.View.{maybeOf, answerOf, maybeLength, sentLength};
 ghost use Rattle.text.specs.Ascii.{ascii};
 ghost use Rattle.text.specs.Decimal.{number};
 ghost use Rattle.bench_lines.specs.Text.{formOf};
@@ -55,17 +56,17 @@ fn name(mark: Mark) -> Letters
 }
 
 // What an answer says, behind the mark.
-pub fn says(line: Line, mark: Mark, answer: Answer, out: &[u8]) -> Line
-    ensures { λ r. ⌜ Adds line (T.says (formOf mark) (answerOf answer (now (out .entry)))) r ⌝ }
+pub fn says(line: Line, mark: Mark, answer: Answer) -> Line
+    ensures { λ r. ⌜ ((out : Bytes) → sentLength answer ≤ length out → Adds line (T.says (formOf mark) (answerOf answer out)) r) ⌝ }
 {
     match answer {
         Answer::Refused(x) => refused(line, x),
-        Answer::Took(n, r) => counted(line, mark, n, r, out),
-        Answer::Sends(r) => request(line, r, out),
-        Answer::Waits(r, n) => waits(line, r, n, out),
+        Answer::Took(n, r) => counted(line, mark, n, r),
+        Answer::Sends(r) => request(line, r),
+        Answer::Waits(r, n) => waits(line, r, n),
         Answer::Completes(c) => {
             let request = c.request;
-            counted(line, mark, c.waiters, request, out)
+            counted(line, mark, c.waiters, request)
         }
         Answer::Attempt(n) => line.number(n as u64),
         Answer::Accepted => word(line, okay(mark)),
@@ -81,10 +82,10 @@ pub fn refused(line: Line, x: Refusal) -> Line
 }
 
 // A request, and the number of the waiter made.
-fn waits(line: Line, r: Request, n: u64, out: &[u8]) -> Line
-    ensures { λ l. ⌜ Adds line (T.request (requestOf r (now (out .entry))) ++ ascii " w" ++ number n) l ⌝ }
+fn waits(line: Line, r: Request, n: u64) -> Line
+    ensures { λ l. ⌜ ((out : Bytes) → lengthOf (r .«data») ≤ length out → Adds line (T.request (requestOf r out) ++ ascii " w" ++ number n) l) ⌝ }
 {
-    request(line, r, out).text(b" w").number(n)
+    request(line, r).text(b" w").number(n)
 }
 
 // How a call that is accepted, with no more to say, prints.
@@ -108,12 +109,12 @@ fn okay(mark: Mark) -> Letters
 }
 
 // A number, and the request that the call may hand out.
-fn counted(line: Line, mark: Mark, n: usize, r: MaybeRequest, out: &[u8]) -> Line
-    ensures { λ l. ⌜ Adds line (T.counted (formOf mark .hands) n (maybeOf r (now (out .entry)))) l ⌝ }
+fn counted(line: Line, mark: Mark, n: usize, r: MaybeRequest) -> Line
+    ensures { λ l. ⌜ ((out : Bytes) → maybeLength r ≤ length out → Adds line (T.counted (formOf mark .hands) n (maybeOf r out)) l) ⌝ }
 {
     let count = line.number(n as u64);
     if hands(mark) {
-        return or_dash(count.byte(b' '), r, out);
+        return or_dash(count.byte(b' '), r);
     }
     count
 }
@@ -138,39 +139,32 @@ fn hands(mark: Mark) -> bool
     }
 }
 
-fn or_dash(line: Line, r: MaybeRequest, out: &[u8]) -> Line
-    ensures { λ l. ⌜ Adds line (T.orDash (maybeOf r (now (out .entry)))) l ⌝ }
+fn or_dash(line: Line, r: MaybeRequest) -> Line
+    ensures { λ l. ⌜ ((out : Bytes) → maybeLength r ≤ length out → Adds line (T.orDash (maybeOf r out)) l) ⌝ }
 {
     match r {
         MaybeRequest::Absent => line.byte(b'-'),
-        MaybeRequest::Present(x) => request(line, x, out),
+        MaybeRequest::Present(x) => request(line, x),
     }
 }
 
 // Offset, length, flags.
-fn request(line: Line, r: Request, out: &[u8]) -> Line
-    ensures { λ l. ⌜ Adds line (T.request (requestOf r (now (out .entry)))) l ⌝ }
+fn request(line: Line, r: Request) -> Line
+    ensures { λ l. ⌜ ((out : Bytes) → lengthOf (r .«data») ≤ length out → Adds line (T.request (requestOf r out)) l) ⌝ }
 {
     let at = r.write_offset;
     let data = r.data;
     let place = line.signed(at.0).byte(b':');
-    let size = place.number(data_length(data, out) as u64).byte(b':');
+    let size = place.number(data_length(data) as u64).byte(b':');
     flags(size, r.flush, r.state_lookup, r.finish_write)
 }
 
-// The data fills the front of out: of a length beyond it there is no more.
-fn data_length(data: Data, out: &[u8]) -> usize
-    ensures { λ r. ⌜ r ≡ length (contentOf (dataOf «data» (now (out .entry)))) ⌝ }
+fn data_length(data: Data) -> usize
+    ensures { λ r. ⌜ r ≡ lengthOf «data» ⌝ }
 {
     match data {
         Data::Absent => 0,
-        Data::Checksummed(d) => {
-            let n = d.length;
-            if n < out.len() {
-                return n;
-            }
-            out.len()
-        }
+        Data::Checksummed(d) => d.length,
     }
 }
 

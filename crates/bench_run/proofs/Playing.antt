@@ -11,7 +11,7 @@ use Rattle.rules.specs.Message.{Bytes}
 use Rattle.rules.specs.Session as R
 use Rattle.rules.specs.Step.{step}
 use Rattle.ring.specs.Ring.{ring, part}
-use Rattle.transport.specs.View.{lentOf, view, answerOf}
+use Rattle.transport.specs.View.{lentOf, view, answerOf, sentLength}
 use Rattle.transport.specs.Valid.{Valid}
 use Rattle.transport.specs.declared.Session.{Session}
 use Rattle.transport.specs.declared.Answer.{Answer}
@@ -115,7 +115,8 @@ module _ (input : Bytes) {s : Session} {store : Bytes} {table : List ℕ} {out :
         omega (arith, f, h, e)
 
     module _ {text line text′ : Bytes} {used used′ : ℕ} {store₀ : Bytes} {table₀ : List ℕ} {s₀ : Session} {turn₀ : Turn} {at₀ : ℕ}
-        (put : Gathers text used line text′ used′) (same : length text′ ≡ length text) (li′ : line ≡ lineFor c (r .answer) out′) where
+        (put : Gathers text used line text′ used′) (same : length text′ ≡ length text)
+        (kept : length out′ ≡ length out) (li′ : (x : Bytes) → sentLength (r .answer) ≤ length x → line ≡ lineFor c (r .answer) x) where
       pub turned : Playing input store₀ table₀ s₀ turn₀ at₀ store table text s t at used
           → Playing input store₀ table₀ s₀ turn₀ at₀ store′ table′ text′ (r .session) (next .turn) (at + next .at) used′
       turned p = record {
@@ -135,7 +136,7 @@ module _ (input : Bytes) {s : Session} {store : Bytes} {table : List ℕ} {out :
           wrote : (written : Bytes) → (written ++ take used text) ++ lineOf (markOf (callOf c own 8192)) (answerOf (r .answer) out′) ≡ written ++ take used′ text′
           wrote written =
               append-assoc written (take used text) _
-              ∙ ap (λ (b : Bytes). written ++ b) (ap (λ (b : Bytes). take used text ++ b) (ap (λ (k : _). lineOf k (answerOf (r .answer) out′)) (sym (mark-is c own 8192)) ∙ sym li′) ∙ sym (put .text-is))
+              ∙ ap (λ (b : Bytes). written ++ b) (ap (λ (b : Bytes). take used text ++ b) (ap (λ (k : _). lineOf k (answerOf (r .answer) out′)) (sym (mark-is c own 8192)) ∙ sym (li′ out′ (omega (arith, m .sent-in)))) ∙ sym (put .text-is))
 
 -- what was found lies in the input
 pub found-inside : (t : Turn) (x : Bytes) {k : ℕ} → length x ≡ k → Found t x → TurnInside t k

@@ -129,7 +129,7 @@ pub fn play(
         let r = bench_turns::call(s, c, &input[at..to], store, table, out);
         let a = r.answer;
         s = r.session;
-        used = put(text, used, bench_turns::line(c, a, out));
+        used = put(text, used, bench_turns::line(c, a));
         let next = after(c, a, &input[at..], n);
         turn = next.turn;
         at += next.at;

@@ -2,11 +2,12 @@
 ghost use mathlib.Core.Path.{_≡_};
 ghost use mathlib.Core.Bool.{true, false, cond};
 ghost use mathlib.Core.List.{[]};
-ghost use Prim.Native.Nat.{ℕ};
+ghost use Prim.Native.Nat.{ℕ, _≤_};
+ghost use lib.ListN.{length};
 ghost use Rattle.rules.specs.Bench.{sized as Bench·sized};
 ghost use Rattle.rules.specs.Message.{Bytes};
 ghost use Rattle.bidi_write.specs.View.{responseOf, callOf as View·callOf};
-ghost use Rattle.transport.specs.View.{answerOf};
+ghost use Rattle.transport.specs.View.{answerOf, sentLength};
 ghost use Rattle.text.specs.Line.{textOf};
 ghost use Rattle.bench_lines.specs.Text.{markOf};
 ghost use Rattle.bench_turns.specs.Turn.{Opens, callOf, Makes, by, Continues, lineFor};
@@ -174,10 +175,10 @@ fn once_more(is: bool) -> Rest
 }
 
 // The line that a record's call prints.
-pub fn line(c: CallRecord, a: Answer, out: &[u8]) -> Line
-    ensures { λ r. ⌜ textOf r ≡ lineFor c a (now (out .entry)) ⌝ }
+pub fn line(c: CallRecord, a: Answer) -> Line
+    ensures { λ r. ⌜ ((out : Bytes) → sentLength a ≤ length out → textOf r ≡ lineFor c a out) ⌝ }
 {
-    bench_lines::line(mark(c), a, out)
+    bench_lines::line(mark(c), a)
 }
 
 fn mark(c: CallRecord) -> Mark

@@ -22,7 +22,7 @@ pub fn opening(out: &mut [u8], n: usize, a: OpenAnswer) -> usize {
 pub fn answer(out: &mut [u8], n: usize, call: Call, a: Answer, room: &[u8]) -> usize
     requires { ⌜ sentLength a ≤ length (now room) ⌝ }
 {
-    let n = line(out, n, bench_lines::line(mark(call), a, room));
+    let n = line(out, n, bench_lines::line(mark(call), a));
     sent(out, n, a, room)
 }
 

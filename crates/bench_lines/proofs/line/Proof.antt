@@ -17,9 +17,10 @@ byte-requires c κs = search needs
 
 returns : tie.Need-returns
 returns c =
+    λ out h.
     let begun = c .before .before in
-    let args = begun .before .before .args in
-    line-is (args .mark) (answerOf (args .answer) (args .out .now)) (begun .begun .ensures) (c .before .says .ensures ⨟ c .byte .ensures)
+    let args = begun .before .args in
+    line-is (args .mark) (answerOf (args .answer) out) (begun .begun .ensures) (c .before .says .ensures out h ⨟ c .byte .ensures)
 
 pub line-spec : {M : Type 1} → statement M
 line-spec = tie.close (tie.spec begun-requires says-requires byte-requires returns)

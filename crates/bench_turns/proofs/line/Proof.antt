@@ -11,7 +11,7 @@ line-requires : tie.Need-line-requires
 line-requires c κs = search needs
 
 returns : tie.Need-returns
-returns c = c .line .ensures ∙ rw (c .before .mark .ensures)
+returns c = λ out h. c .line .ensures out h ∙ rw (c .before .mark .ensures)
 
 pub line-spec : {M : Type 1} → statement M
 line-spec = tie.close (tie.spec mark-requires line-requires returns)

@@ -19,12 +19,13 @@ or-dash-requires c κs = search needs
 
 returns : tie.Need-returns
 returns c =
+    λ out h.
     let tested = c .before .before in
-    reworded (counted-both (tested .before .hands .ensures) _ _ (tested .if1 .taken)) (tested .before .before .number .ensures ⨟ c .before .byte .ensures ⨟ c .or-dash .ensures)
+    reworded (counted-both (tested .before .hands .ensures) _ _ (tested .if1 .taken)) (tested .before .before .number .ensures ⨟ c .before .byte .ensures ⨟ c .or-dash .ensures out h)
 
 returns-2 : tie.Need-returns-2
 returns-2 c =
-    reworded (counted-alone (c .before .hands .ensures) _ _ (c .if1 .left)) (c .before .before .number .ensures)
+    λ out h. reworded (counted-alone (c .before .hands .ensures) _ _ (c .if1 .left)) (c .before .before .number .ensures)
 
 pub counted-spec : {M : Type 1} → statement M
 counted-spec =

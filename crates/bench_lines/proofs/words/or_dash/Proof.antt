@@ -1,6 +1,6 @@
 -- `bench_lines::words::or_dash` meets its contract.
 use borrow.Author.Needs.{needs}
-use Rattle.bench_lines.proofs.Parts.{met-request}
+use Rattle.bench_lines.proofs.Parts.{met-request, present}
 use Rattle.bench_lines.proofs.words.or_dash.Statement.{statement}
 use Rattle.bench_lines.proofs.words.or_dash.Tie as tie
 
@@ -17,10 +17,10 @@ request-requires : tie.Need-request-requires
 request-requires c κs = search needs
 
 returns : tie.Need-returns
-returns c = met-request _ (c .before .enum-told .given .1) (c .byte .ensures)
+returns c = λ out h. met-request out (c .before .enum-told .given .1) (c .byte .ensures)
 
 returns-2 : tie.Need-returns-2
-returns-2 c = met-request _ (c .before .before .r .given .1) (c .request .ensures)
+returns-2 c = λ out h. met-request out (c .before .before .r .given .1) (c .request .ensures out (present out (c .before .before .r .given .1) h))
 
 pub or-dash-spec : {M : Type 1} → statement M
 or-dash-spec =

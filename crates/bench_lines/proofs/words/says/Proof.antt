@@ -3,7 +3,7 @@ use borrow.Author.Needs.{needs}
 use Rattle.text.proofs.Clipped.{reworded}
 use Rattle.bench_lines.proofs.Spelled.{spelled}
 use Rattle.bench_lines.proofs.Lengths.{two}
-use Rattle.bench_lines.proofs.Parts.{met}
+use Rattle.bench_lines.proofs.Parts.{met, sent}
 use Rattle.bench_lines.proofs.words.says.Statement.{statement}
 use Rattle.bench_lines.proofs.words.says.Tie as tie
 
@@ -75,57 +75,66 @@ text-requires-2 c κs = search needs
 
 returns : tie.Need-returns
 returns c =
+    λ out h.
     let known = c .before .before in
-    let args = known .before .before .before .args in
-    met (args .mark) (args .out .now) (known .answer .given .1) (c .refused .ensures)
+    let args = known .before .before .args in
+    met (args .mark) out (known .answer .given .1) (c .refused .ensures)
 
 returns-2 : tie.Need-returns-2
 returns-2 c =
+    λ out h.
     let known = c .before .before in
-    let args = known .before .before .before .args in
-    met (args .mark) (args .out .now) (known .answer2 .given .1) (c .counted .ensures)
+    let args = known .before .before .args in
+    met (args .mark) out (known .answer2 .given .1) (c .counted .ensures out (sent out (known .answer2 .given .1) h))
 
 returns-3 : tie.Need-returns-3
 returns-3 c =
+    λ out h.
     let known = c .before .before in
-    let args = known .before .before .before .args in
-    met (args .mark) (args .out .now) (known .answer3 .given .1) (c .request .ensures)
+    let args = known .before .before .args in
+    met (args .mark) out (known .answer3 .given .1) (c .request .ensures out (sent out (known .answer3 .given .1) h))
 
 returns-4 : tie.Need-returns-4
 returns-4 c =
+    λ out h.
     let known = c .before .before in
-    let args = known .before .before .before .args in
-    met (args .mark) (args .out .now) (known .answer4 .given .1) (c .waits .ensures)
+    let args = known .before .before .args in
+    met (args .mark) out (known .answer4 .given .1) (c .waits .ensures out (sent out (known .answer4 .given .1) h))
 
 returns-5 : tie.Need-returns-5
 returns-5 c =
+    λ out h.
     let known = c .before .before in
-    let args = known .before .before .before .args in
-    met (args .mark) (args .out .now) (known .answer5 .given .1) (c .counted2 .ensures)
+    let args = known .before .before .args in
+    met (args .mark) out (known .answer5 .given .1) (c .counted2 .ensures out (sent out (known .answer5 .given .1) h))
 
 returns-6 : tie.Need-returns-6
 returns-6 c =
+    λ out h.
     let known = c .before .before in
-    let args = known .before .before .before .args in
-    met (args .mark) (args .out .now) (known .answer6 .given .1) (c .number .ensures)
+    let args = known .before .before .args in
+    met (args .mark) out (known .answer6 .given .1) (c .number .ensures)
 
 returns-7 : tie.Need-returns-7
 returns-7 c =
+    λ out h.
     let known = c .before .before in
-    let args = known .before .before .before .args in
-    met (args .mark) (args .out .now) (known .enum-told .given .1) (reworded (spelled (two (args .mark) .1) (c .before .okay .ensures)) (c .word .ensures))
+    let args = known .before .before .args in
+    met (args .mark) out (known .enum-told .given .1) (reworded (spelled (two (args .mark) .1) (c .before .okay .ensures)) (c .word .ensures))
 
 returns-8 : tie.Need-returns-8
 returns-8 c =
+    λ out h.
     let known = c .before .before in
-    let args = known .before .before .before .args in
-    met (args .mark) (args .out .now) (known .enum-told2 .given .1) (c .text .ensures)
+    let args = known .before .before .args in
+    met (args .mark) out (known .enum-told2 .given .1) (c .text .ensures)
 
 returns-9 : tie.Need-returns-9
 returns-9 c =
+    λ out h.
     let known = c .before .before in
-    let args = known .before .before .before .args in
-    met (args .mark) (args .out .now) (known .enum-told3 .given .1) (c .text2 .ensures)
+    let args = known .before .before .args in
+    met (args .mark) out (known .enum-told3 .given .1) (c .text2 .ensures)
 
 pub says-spec : {M : Type 1} → statement M
 says-spec =

@@ -17,7 +17,7 @@ number-requires : tie.Need-number-requires
 number-requires c κs = search needs
 
 returns : tie.Need-returns
-returns c = c .before .before .before .request .ensures ⨟ c .before .text .ensures ⨟ c .number .ensures
+returns c = λ out h. c .before .before .before .request .ensures out h ⨟ c .before .text .ensures ⨟ c .number .ensures
 
 pub waits-spec : {M : Type 1} → statement M
 waits-spec =

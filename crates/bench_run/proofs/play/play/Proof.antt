@@ -74,48 +74,48 @@ line-requires : tie.Need-line-requires Inv-loop μ-loop
 line-requires c κs = search needs
 
 put-requires : tie.Need-put-requires Inv-loop μ-loop
-put-requires c κs = omega (arith, c .before .before .before .before .before .before .before .before .before .before .before .before .before .before .before .before .before .before .loop-test .taken, c .before .before .before .before .before .before .before .before .before .before .before .before .before .before .before .before .before .before .before .loop .inv .5 .used-in)
+put-requires c κs = omega (arith, c .before .before .before .before .before .before .before .before .before .before .before .before .before .before .before .before .before .loop-test .taken, c .before .before .before .before .before .before .before .before .before .before .before .before .before .before .before .before .before .before .loop .inv .5 .used-in)
 
 sub-after : tie.Need-sub-after Inv-loop μ-loop
-sub-after c = c .before .before .before .before .before .before .before .before .before .before .before .before .before .before .before .before .before .before .before .before .before .before .loop .inv .5 .at-in
+sub-after c = c .before .before .before .before .before .before .before .before .before .before .before .before .before .before .before .before .before .before .before .before .before .loop .inv .5 .at-in
 
 part-after-start : tie.Need-part-after-start Inv-loop μ-loop
-part-after-start c = c .before .before .before .before .before .before .before .before .before .before .before .before .before .before .before .before .before .before .before .before .before .before .loop .inv .5 .at-in
+part-after-start c = c .before .before .before .before .before .before .before .before .before .before .before .before .before .before .before .before .before .before .before .before .before .loop .inv .5 .at-in
 
 part-after-end : tie.Need-part-after-end Inv-loop μ-loop
 part-after-end c = search needs
 
 after-requires : tie.Need-after-requires Inv-loop μ-loop
 after-requires c κs =
-    let l = c .before .before .before .before .before .before .before .before .before .before .before .before .before .before .before .before .before .before .before .before .before .before .before .loop in
-    omega (arith, length-drop (l .at) (c .before .before .before .before .before .before .before .before .before .before .before .before .before .before .before .before .before .before .before .before .before .before .before .before .before .before .before .before .before .before .args .input .now), ap length (from-on (l .at) (c .before .before .before .before .before .before .before .before .before .before .before .before .before .before .before .before .before .before .before .before .before .before .before .before .before .before .before .before .before .before .args .input .now)), within (c .before .before .before .before .before .before .before .before .before .before .before .before .before .before .before .before .before .before .before))
+    let l = c .before .before .before .before .before .before .before .before .before .before .before .before .before .before .before .before .before .before .before .before .before .before .loop in
+    omega (arith, length-drop (l .at) (c .before .before .before .before .before .before .before .before .before .before .before .before .before .before .before .before .before .before .before .before .before .before .before .before .before .before .before .before .before .args .input .now), ap length (from-on (l .at) (c .before .before .before .before .before .before .before .before .before .before .before .before .before .before .before .before .before .before .before .before .before .before .before .before .before .before .before .before .before .args .input .now)), within (c .before .before .before .before .before .before .before .before .before .before .before .before .before .before .before .before .before .before))
 
 add-at : tie.Need-add-at Inv-loop μ-loop
 add-at c =
-    let l = c .before .before .before .before .before .before .before .before .before .before .before .before .before .before .before .before .before .before .before .before .before .before .before .before .before .loop in
-    let s = c .before .before .before .before .before .before .before .before .before .before .before .before .before .before .before .before .before .before .before .before .before .before .before .before .before .before .before .before .before .before .before .before in
+    let l = c .before .before .before .before .before .before .before .before .before .before .before .before .before .before .before .before .before .before .before .before .before .before .before .before .loop in
+    let s = c .before .before .before .before .before .before .before .before .before .before .before .before .before .before .before .before .before .before .before .before .before .before .before .before .before .before .before .before .before .before .before in
     let h : l .at + c .before .after .result .at ≤ length (s .args .input .now) = omega (arith, c .before .after .ensures [] .inside, l .inv .5 .at-in, length-drop (l .at) (s .args .input .now), ap length (from-on (l .at) (s .args .input .now))) in
     fits-le h (search needs)
 
 loop-less : tie.Need-loop-less Inv-loop μ-loop
 loop-less c =
-    let l = c .before .before .before .before .before .before .before .before .before .before .before .before .before .before .before .before .before .before .before .before .before .before .before .before .before .loop in
-    let s = c .before .before .before .before .before .before .before .before .before .before .before .before .before .before .before .before .before .before .before .before .before .before .before .before .before .before .before .before .before .before .before .before in
-    turn-fewer (s .args .input .now) (l .at) (l .inv .5 .valid) (l .inv .4) (c .before .before .before .before .before .before .before .before .before .before .before .before .before .before .before .before .before .before .before .before .before .before .turn .given .1) (c .before .before .before .before .before .before .before .before .before .before .before .before .before .before .before .before .call .ensures) (from-on (l .at) (s .args .input .now)) (c .before .after .ensures)
+    let l = c .before .before .before .before .before .before .before .before .before .before .before .before .before .before .before .before .before .before .before .before .before .before .before .before .loop in
+    let s = c .before .before .before .before .before .before .before .before .before .before .before .before .before .before .before .before .before .before .before .before .before .before .before .before .before .before .before .before .before .before .before in
+    turn-fewer (s .args .input .now) (l .at) (l .inv .5 .valid) (l .inv .4) (c .before .before .before .before .before .before .before .before .before .before .before .before .before .before .before .before .before .before .before .before .before .turn .given .1) (c .before .before .before .before .before .before .before .before .before .before .before .before .before .before .before .call .ensures) (from-on (l .at) (s .args .input .now)) (c .before .after .ensures)
 
 loop-again : tie.Need-loop-again Inv-loop μ-loop
 loop-again c =
-    let l = c .before .before .before .before .before .before .before .before .before .before .before .before .before .before .before .before .before .before .before .before .before .before .before .before .before .loop in
-    let s = c .before .before .before .before .before .before .before .before .before .before .before .before .before .before .before .before .before .before .before .before .before .before .before .before .before .before .before .before .before .before .before .before in
-    let call = c .before .before .before .before .before .before .before .before .before .before .before .before .before .before .before .before .call in
+    let l = c .before .before .before .before .before .before .before .before .before .before .before .before .before .before .before .before .before .before .before .before .before .before .before .before .loop in
+    let s = c .before .before .before .before .before .before .before .before .before .before .before .before .before .before .before .before .before .before .before .before .before .before .before .before .before .before .before .before .before .before .before in
+    let call = c .before .before .before .before .before .before .before .before .before .before .before .before .before .before .before .call in
     let put = c .before .before .before .before .before .put in (
       call .kept .1 .1 .1 .0 ∙ l .inv .0,
       call .kept .1 .1 .1 .1 .0 ∙ l .inv .1,
       call .kept .1 .1 .1 .1 .1 .0 ∙ l .inv .2,
       put .kept .0 ∙ l .inv .3,
       call .kept .1 .1 .1 .1 .1 .0 ∙ l .inv .4,
-      turned (s .args .input .now) (l .at) (l .inv .5 .valid) (l .inv .4) (c .before .before .before .before .before .before .before .before .before .before .before .before .before .before .before .before .before .before .before .before .before .before .turn .given .1) (call .ensures) (from-on (l .at) (s .args .input .now)) (c .before .after .ensures)
-          (put .ensures) (put .kept .0) (c .before .before .before .before .before .before .line .ensures) (l .inv .5),
+      turned (s .args .input .now) (l .at) (l .inv .5 .valid) (l .inv .4) (c .before .before .before .before .before .before .before .before .before .before .before .before .before .before .before .before .before .before .before .before .before .turn .given .1) (call .ensures) (from-on (l .at) (s .args .input .now)) (c .before .after .ensures)
+          (put .ensures) (put .kept .0) (call .kept .1 .1 .1 .1 .1 .0) (c .before .before .before .before .before .before .line .ensures) (l .inv .5),
     )
 
 same-length-5 : tie.Need-same-length-5 Inv-loop μ-loop
