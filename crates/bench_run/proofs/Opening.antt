@@ -20,7 +20,7 @@ use Rattle.openings.specs.declared.OpenAnswer.the-variants as answer
 use Rattle.openings.specs.declared.Opened.{Opened}
 use Rattle.openings.specs.Opening.{openedOf}
 use Rattle.openings.proofs.Unopened.{unopened-valid}
-use Rattle.bench_records.specs.Record.{OP, whole, cut, unknown, reading}
+use Rattle.bench_records.specs.Record.{OP, whole, reading}
 use Rattle.bench_records.specs.View.{readingOf, recordOf, Within}
 use Rattle.bench_records.specs.declared.CallRecord.{CallRecord}
 use Rattle.bench_records.specs.declared.Record.{Record}

@@ -1,7 +1,7 @@
 -- A run over the bytes at hand, turn by turn.
 -- Assumes nothing.
 use mathlib.Core.Path.{_≡_, refl, sym, ap, _∙_, subst}
-use mathlib.Core.Option.{Option, none, some}
+use mathlib.Core.Option.{Option, some}
 use mathlib.Core.List.{List, [], _++_, append-assoc, append-nil}
 use Prim.Native.Nat.{ℕ, _+_, _-_, _*_, _≤_, _<_}
 use native.Mathlib.Omega.{arith}
@@ -14,22 +14,19 @@ use Rattle.ring.specs.Ring.{ring, part}
 use Rattle.transport.specs.View.{lentOf, view, answerOf, sentLength}
 use Rattle.transport.specs.Valid.{Valid}
 use Rattle.transport.specs.declared.Session.{Session}
-use Rattle.transport.specs.declared.Answer.{Answer}
 use Rattle.transport.specs.declared.Outcome.{Outcome}
 use Rattle.bench_records.specs.declared.CallRecord.{CallRecord}
 use Rattle.bench_records.specs.declared.CallRecord.the-variants as call
 use Rattle.bench_lines.specs.Text.{markOf, lineOf}
 use Rattle.bench_turns.specs.Turn.{callOf, Makes, again, lineFor}
-use Rattle.bench_run.specs.Stands.{callTurns, turnsOf, turns, Stands}
+use Rattle.bench_run.specs.Stands.{callTurns, turns, Stands}
 use Rattle.bench_run.specs.Turn.{TurnInside, callAt, restAt, Standing, Found, Goes}
 use Rattle.bench_run.specs.Gathers.{Gathers}
 use Rattle.bench_run.specs.Run.{Plays}
 use Rattle.bench_run.specs.declared.turns.Turn.{Turn}
 use Rattle.bench_run.specs.declared.turns.Turn.the-variants as turn
 use Rattle.bench_run.specs.declared.turns.Next.{Next}
-use Rattle.bench_run.specs.declared.play.Played.{Played}
 use Rattle.bench_run.proofs.Standing.{called, called-fewer}
-use Rattle.bench_run.proofs.Going.{from-on}
 
 -- fewer bytes than C are held
 held-below : (s : Session) (store : Bytes) (table : List ℕ) → Valid s store table → length (view s store table .writer .held) < view s store table .limit

@@ -3,16 +3,16 @@
 use mathlib.Core.Path.{_≡_, refl, sym, ap, _∙_, subst}
 use mathlib.Core.Option.{Option, none, some}
 use mathlib.Core.Logic.{_⊎_, inl, inr, ⊎-elim}
-use mathlib.Core.List.{List, [], _∷_, _++_, append-assoc, append-nil}
+use mathlib.Core.List.{[], _++_, append-assoc, append-nil}
 use Prim.Native.Nat.{ℕ, zero, suc, _+_, _-_, _*_, _≤_, _<_}
 use native.Mathlib.Omega.{arith}
-use lib.ListN.{length, take, drop, length-append}
+use lib.ListN.{length, length-append}
 use Rattle.rules.specs.Message.{Bytes}
 use Rattle.rules.specs.Session.{Session, Call, Answer, Result, answers}
 use Rattle.rules.specs.Session as R
 use Rattle.rules.specs.Step.{step}
-use Rattle.rules.specs.Opening.{Opening, Opened, turnedAway, opened, opens}
-use Rattle.bench_records.specs.Record.{Record, Reading, whole, cut, unknown, reading}
+use Rattle.rules.specs.Opening.{Opening, turnedAway, opened, opens}
+use Rattle.bench_records.specs.Record.{Record, whole, cut, unknown, reading}
 use Rattle.bench_records.proofs.Parts.{more, parted}
 use Rattle.bench_lines.specs.Text.{markOf, lineOf}
 use Rattle.bench_lines.specs.declared.Mark.the-variants as mark

@@ -1,6 +1,6 @@
 -- A whole run writes what its input prints.
 -- Assumes nothing.
-use mathlib.Core.Path.{_≡_, sym, subst}
+use mathlib.Core.Path.{sym, subst}
 use mathlib.Core.Option.{some}
 use mathlib.Core.List.{List, _++_}
 use Prim.Native.Nat.{ℕ}

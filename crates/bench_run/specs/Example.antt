@@ -45,7 +45,7 @@ example :
 unfolding computed number bytes reading request lineOf printed
 example = refl
 
--- "A ... second OP ... ends the run", and so do another first record, a refused OP, a cut record and an unknown one
+-- "another first record ... ends the run"
 ends : printed (ascii "FL" ++ input) ≡ []
 unfolding bytes reading printed
 ends = refl

@@ -1,6 +1,6 @@
 -- What is at hand for a turn.
 use mathlib.Core.Path.{_≡_}
-use Prim.Native.Nat.{ℕ, _-_, _<_, _≤_}
+use Prim.Native.Nat.{ℕ, _-_, _≤_}
 use lib.ListN.{length, take, drop}
 use Rattle.rules.specs.Message.{Bytes}
 use Rattle.bench_run.specs.Turn.{Ready}

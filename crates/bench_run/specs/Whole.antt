@@ -1,6 +1,6 @@
 -- A whole run: whatever pieces the input comes in, and whenever the text is written.
 use mathlib.Core.Path.{_≡_}
-use mathlib.Core.List.{List, [], _++_}
+use mathlib.Core.List.{List, _++_}
 use Prim.Native.Nat.{ℕ}
 use lib.ListN.{length, take, drop}
 use Rattle.rules.specs.Message.{Bytes}

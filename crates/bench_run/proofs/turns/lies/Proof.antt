@@ -1,7 +1,7 @@
 -- `bench_run::turns::lies` meets its contract: four bytes come before an append's own, or all.
 -- Assumes nothing.
 use mathlib.Core.Path.{_≡_, ap, _∙_}
-use Prim.Native.Nat.{ℕ, _-_, min}
+use Prim.Native.Nat.{_-_, min}
 use native.Mathlib.Omega.{arith}
 use borrow.Author.Needs.{needs}
 use Rattle.bench_run.specs.declared.turns.Turn.the-variants as turn
