@@ -1,5 +1,4 @@
 // The lines, which are gathered: a write for each would take most of the time.
-ghost use mathlib.Core.Path.{_≡_};
 ghost use Prim.Native.Nat.{_+_, _≤_};
 ghost use lib.ListN.{length};
 ghost use Rattle.text.specs.Line.{textOf};

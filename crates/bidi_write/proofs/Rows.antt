@@ -11,7 +11,7 @@ use Rattle.bidi_write.specs.declared.Refusal.{Refusal}
 use Rattle.bidi_write.specs.declared.Check.{Check}
 use Rattle.bidi_write.specs.declared.Check.the-variants as check
 
-same-refusal : (x y : Refusal) → check.Refuse x ≡ check.Refuse y → x ≡ y
+pub same-refusal : (x y : Refusal) → check.Refuse x ≡ check.Refuse y → x ≡ y
 same-refusal x y e = cc
 
 pub no-go {ℓ} : {X : Type ℓ} (x : Refusal) → check.Refuse x ≡ check.Go → X

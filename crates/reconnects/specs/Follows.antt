@@ -13,9 +13,7 @@ use Rattle.transport.specs.Promise.{Quiet}
 use Rattle.transport.specs.Parts.{renewed}
 use Rattle.transport.specs.declared.Answer.the-variants as answer
 use Rattle.transport.specs.declared.Outcome.{Outcome}
-use Rattle.transport.specs.declared.Phase.{Phase}
 use Rattle.transport.specs.declared.Phase.the-variants as phase
-use Rattle.transport.specs.declared.Sent.{Sent}
 use Rattle.transport.specs.declared.Sent.the-variants as sent
 use Rattle.transport.specs.declared.Session.{Session}
 

@@ -27,7 +27,7 @@ use Rattle.bidi_write.specs.declared.Refusal.the-variants as refusal
 use Rattle.transport.specs.declared.Session.{Session}
 use Rattle.responses.specs.declared.Taken.{Taken}
 use Rattle.responses.proofs.Admitting.{passes}
-use Rattle.bidi_write.proofs.Rows.{refused, passed}
+use Rattle.bidi_write.proofs.Rows.{same-refusal, refused, passed}
 use Rattle.rules.proofs.Tests.{clash}
 use Rattle.transport.proofs.Refused.{refusal}
 use Rattle.transport.proofs.First.{ended-refused, first-goes}
@@ -86,10 +86,7 @@ module _ {c : R.Call} {right : R.Phase → Bool} {m : M.Response} {f : R.Connect
       (λ v. by-end v (R.isEnded (phaseOf (s .phase))) refl)
     where
       is : (y : Refusal) → way ≡ check.Refuse y → answer.Refused x ≡ answer.Refused y
-      is y f = ap answer.Refused (same x y (sym e ∙ f))
-        where
-          same : (a b : Refusal) → check.Refuse a ≡ check.Refuse b → a ≡ b
-          same a b g = cc
+      is y f = ap answer.Refused (same-refusal x y (sym e ∙ f))
 
       by-end : Valid s store table → (b : Bool) → R.isEnded (phaseOf (s .phase)) ≡ b → step c (view s store table) ≡ R.answers (R.refused (numberOf x)) (view s store table)
       by-end v true f =

@@ -17,9 +17,8 @@ use Rattle.rules.proofs.Tests.{clash}
 use Rattle.bidi_write.specs.Refusal.{numberOf, Rows, checked}
 use Rattle.bidi_write.specs.declared.Refusal.{Refusal}
 use Rattle.bidi_write.specs.declared.Refusal.the-variants as refusal
-use Rattle.bidi_write.specs.declared.Check.{Check}
 use Rattle.bidi_write.specs.declared.Check.the-variants as check
-use Rattle.bidi_write.proofs.Rows.{no-go}
+use Rattle.bidi_write.proofs.Rows.{same-refusal, no-go}
 use Rattle.transport.specs.View.{phaseOf, view}
 use Rattle.transport.specs.Valid.{GuardedAt, Valid, Enters}
 use Rattle.transport.specs.Promise.{askedBy, First, Promise}
@@ -74,17 +73,14 @@ module _ (c : R.Call) (s : Session) (store : Bytes) (table : List ℕ) (some : a
       refusal c s store table out x
       (record {
         empty = λ f. clash f some;
-        over = λ _ f. ap answer.Refused (is x refusal.Ended (e .over f));
-        unfit = λ _ f _ g. ap answer.Refused (is x refusal.ShortMemory (e .unfit f g));
+        over = λ _ f. ap answer.Refused (same-refusal x refusal.Ended (e .over f));
+        unfit = λ _ f _ g. ap answer.Refused (same-refusal x refusal.ShortMemory (e .unfit f g));
       })
       (λ v. by-end v (R.isEnded (phaseOf (s .phase))) refl)
     where
-      is : (a b : Refusal) → check.Refuse a ≡ check.Refuse b → a ≡ b
-      is a b f = cc
-
       by-end : Valid s store table → (b : Bool) → R.isEnded (phaseOf (s .phase)) ≡ b
           → step c (view s store table) ≡ R.answers (R.refused (numberOf x)) (view s store table)
       by-end v true f =
           ended-refused c (view s store table) some f
-          ∙ ap (λ (y : Refusal). R.answers (R.refused (numberOf y)) (view s store table)) (sym (is x refusal.Ended (e .over f)))
+          ∙ ap (λ (y : Refusal). R.answers (R.refused (numberOf y)) (view s store table)) (sym (same-refusal x refusal.Ended (e .over f)))
       by-end v false f = no-go x (e .fits f (v .guarded))

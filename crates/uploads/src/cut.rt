@@ -11,7 +11,6 @@ ghost use Rattle.bidi_write.specs.Numbers.{toℕ};
 ghost use Rattle.replay_buffer.specs.Push.{Room};
 ghost use Rattle.uploads.specs.Upload.{CutRoom, Cuts, CutBytes, CutSession, storing, joinedTo};
 use bidi_write::Checksum;
-use bidi_write::Offset;
 use bidi_write::Request;
 use bidi_write::either;
 use replay_buffer::ReplayBuffer;

@@ -4,15 +4,6 @@ use lib.ListN.{length}
 use borrow.Author.Needs.{needs}
 use Rattle.day.proofs.day.run.Statement.{statement}
 use Rattle.day.proofs.day.run.Tie as tie
-use Rattle.day.proofs.day.run.Reads as reads
-use Rattle.day.proofs.day.run.Lts as lts
-use Rattle.day.proofs.day.calls_left.Reads as calls-left-reads
-use Rattle.day.proofs.day.open.Reads as open-reads
-use Rattle.day.proofs.day.rest.Reads as rest-reads
-use Rattle.day.proofs.world.heard.Reads as heard-reads
-use Rattle.day.proofs.world.new.Reads as new-reads
-use Rattle.day.proofs.world.next.Reads as next-reads
-use Rattle.steps.proofs.step.Reads as step-reads
 
 abbrev Inv-loop : tie.InvT-loop
 Inv-loop seed breaks store₀ table₀ out₀ event₀ s₀ w₀ calls₀ t17 t18 store table out event s w calls =

@@ -1,5 +1,5 @@
 -- `openings::starting::write_offset` meets its contract: P is below the payload's end, or not.
-use mathlib.Core.Path.{_≡_, sym, ap, _∙_}
+use mathlib.Core.Path.{sym, ap, _∙_}
 use native.Mathlib.Omega.{arith}
 use lib.Signed.{ltZ}
 use mir.Syntax.{w64}
