@@ -2,8 +2,7 @@
 -- Assumes nothing.
 use mathlib.Core.Path.{_≡_, refl, ap, _∙_}
 use mathlib.Core.List.{[], _∷_, _++_}
-use Prim.Native.Nat.{ℕ, zero, suc, _/_, _%_, _^_, _<_}
-use native.Mathlib.Nat.{pow-succ'}
+use Prim.Native.Nat.{ℕ, _^_, _<_}
 use native.Mathlib.Omega.{arith}
 use borrow.Author.Tests.{le-leb}
 use lib.ListN.{length, length-append}
@@ -14,22 +13,9 @@ use mir.Val.{SFits, toZ, ofZ}
 use mir.Facts.{fits-ofZ, toZ-ofZ}
 use Rattle.rules.specs.Message.{Bytes}
 use Rattle.text.specs.Ascii.{ascii}
-use Rattle.bench_records.specs.Record.{Record, OP, AP, FL, FI, CL, RS, HS, BR, VE, NX, Reading, whole, bytes, little, u32, i64, format, after, reading}
-
--- ---- numbers
-
--- n as so many bytes, the lowest first
-abbrev pub digits : ℕ → ℕ → Bytes
-digits zero n = []
-digits (suc k) n = n % 256 ∷ digits k (n / 256)
-
-length-digits : (k n : ℕ) → length (digits k n) ≡ k
-length-digits zero n = refl
-length-digits (suc k) n = ap suc (length-digits k (n / 256))
-
-little-digits : (k n : ℕ) → n < 256 ^ k → little (digits k n) ≡ n
-little-digits zero n h = omega arith
-little-digits (suc k) n h = omega (arith, little-digits k (n / 256) (omega (arith, pow-succ' 256 k)))
+use Rattle.little_endian.specs.Little.{little, digits}
+use Rattle.little_endian.proofs.Little.{length-digits, little-digits}
+use Rattle.bench_records.specs.Record.{Record, OP, AP, FL, FI, CL, RS, HS, BR, VE, NX, Reading, whole, bytes, u32, i64, format, after, reading}
 
 -- ---- fields
 

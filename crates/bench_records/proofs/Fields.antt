@@ -17,7 +17,8 @@ use Rattle.rules.specs.Message.{Bytes}
 use Rattle.rules.proofs.Tests.{and-left, and-right}
 use Rattle.rules.proofs.Lists.{cond-ind}
 use Rattle.text.specs.Ascii.{ascii}
-use Rattle.bench_records.specs.Record.{Record, Reading, whole, cut, unknown, OP, AP, VE, bytes, little, u8, i64, Row, format, same, after, reading}
+use Rattle.little_endian.specs.Little.{little}
+use Rattle.bench_records.specs.Record.{Record, Reading, whole, cut, unknown, OP, AP, VE, bytes, u8, i64, Row, format, same, after, reading}
 use Rattle.bench_records.proofs.Little.{two}
 
 -- n bytes from place m on

@@ -1,20 +1,16 @@
 -- Little-endian numbers.
 -- Assumes nothing.
 use mathlib.Core.Path.{_≡_, refl, ap, _∙_}
-use mathlib.Core.List.{[], _∷_, _++_}
+use mathlib.Core.List.{[], _∷_}
 use Prim.Native.Nat.{ℕ, zero, suc, _+_, _*_, _^_, _≤_}
-use native.Mathlib.Nat.{add-zero, mul-assoc, pow-succ'}
+use native.Mathlib.Nat.{add-zero}
 use native.Mathlib.Omega.{arith}
 use lib.ListN.{length, take, drop, getD, length-drop}
 use lib.Seq.{length-take-le, take-add, getD-drop, drop-drop}
 use lib.IntN.{pos, negsuc, _-ℤ_}
 use Rattle.rules.specs.Message.{Bytes}
-use Rattle.bench_records.specs.Record.{little}
-
-little-append : (a b : Bytes) → little (a ++ b) ≡ little a + 256 ^ length a * little b
-little-append [] b = omega arith
-little-append (x ∷ a) b =
-    omega (arith, little-append a b, ap (λ (k : ℕ). k * little b) (pow-succ' 256 (length a)), mul-assoc 256 (256 ^ length a) (little b))
+use Rattle.little_endian.specs.Little.{little}
+use Rattle.little_endian.proofs.Little.{little-append}
 
 -- a number of twice n bytes, from place m on
 pub twice : (n m : ℕ) (s : Bytes) → m + n ≤ length s

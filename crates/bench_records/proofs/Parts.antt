@@ -14,7 +14,8 @@ use Rattle.crc32c.specs.Bytes.{Bytes as Octets}
 use Rattle.rules.specs.Message.{Bytes}
 use Rattle.rules.specs.Basics.{All}
 use Rattle.rules.proofs.Lists.{cond-ind}
-use Rattle.bench_records.specs.Record.{Record, FL, FI, CL, BR, NX, Reading, whole, cut, unknown, bytes, little, same, Row, format, after, reading}
+use Rattle.little_endian.specs.Little.{little}
+use Rattle.bench_records.specs.Record.{Record, FL, FI, CL, BR, NX, Reading, whole, cut, unknown, bytes, same, Row, format, after, reading}
 
 -- what is read once b follows
 abbrev pub more : Bytes → Reading → Reading

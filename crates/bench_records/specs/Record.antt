@@ -1,13 +1,14 @@
 -- "The bench program": the records that it reads.
 use mathlib.Core.Bool.{Bool, true, false, cond, _&&_}
 use mathlib.Core.List.{List, [], _∷_}
-use Prim.Native.Nat.{ℕ, _+_, _*_}
+use Prim.Native.Nat.{ℕ}
 use Prim.Native.String.{String}
 use lib.ListN.{length, take, drop}
 use lib.Dec.{leb, eqb}
 use lib.IntN.{ℤ}
 use mir.Syntax.{w64}
 use mir.Val.{toZ}
+use Rattle.little_endian.specs.Little.{little}
 use Rattle.rules.specs.Message.{Bytes}
 use Rattle.text.specs.Ascii.{ascii}
 
@@ -31,11 +32,7 @@ pub data Reading : Type 0 where
 unfoldable pub bytes : ℕ → (Bytes → Bytes → Reading) → Bytes → Reading
 bytes n then input = cond (leb n (length input)) (then (take n input) (drop n input)) cut
 
--- "little-endian"
-abbrev pub little : Bytes → ℕ
-little [] = 0
-little (b ∷ rest) = b + 256 * little rest
-
+-- numbers, "little-endian"
 abbrev pub u8 : (ℕ → Bytes → Reading) → Bytes → Reading
 u8 then = bytes 1 (λ b. then (little b))
 

@@ -5,7 +5,8 @@ ghost use lib.ListN.{length, take, drop};
 ghost use mir.Syntax.{w64};
 ghost use mir.Val.{toZ};
 ghost use Rattle.text.specs.Ascii.{ascii};
-ghost use Rattle.bench_records.specs.Record.{little, format, after, reading};
+ghost use Rattle.little_endian.specs.Little.{little};
+ghost use Rattle.bench_records.specs.Record.{format, after, reading};
 ghost use Rattle.bench_records.specs.View.{readingOf, Within};
 use bidi_write::Offset;
 

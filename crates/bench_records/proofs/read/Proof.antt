@@ -9,7 +9,8 @@ use lib.ListN.{drop}
 use denote.Ref.{now}
 use Rattle.rules.specs.Message.{Bytes}
 use Rattle.text.specs.Ascii.{ascii}
-use Rattle.bench_records.specs.Record.{RS, HS, little, format, after, reading}
+use Rattle.little_endian.specs.Little.{little}
+use Rattle.bench_records.specs.Record.{RS, HS, format, after, reading}
 use Rattle.bench_records.proofs.Fields.{sized, size-cut, judged, verdict-cut, no-mark, marked, mark-cut}
 use Rattle.bench_records.proofs.read.Statement.{statement}
 use Rattle.bench_records.proofs.read.Tie as tie

@@ -4,7 +4,7 @@ use mathlib.Core.Path.{_≡_, sym}
 use native.Mathlib.Omega.{arith}
 use lib.ListN.{take, drop}
 use denote.Ref.{now}
-use Rattle.bench_records.specs.Record.{little}
+use Rattle.little_endian.specs.Little.{little}
 use Rattle.bench_records.proofs.Fields.{appended, append-cut}
 use Rattle.bench_records.proofs.read_append.Statement.{statement}
 use Rattle.bench_records.proofs.read_append.Tie as tie

@@ -3,7 +3,7 @@ use borrow.Author.Needs.{needs}
 use mathlib.Core.Path.{ap}
 use native.Mathlib.Omega.{arith}
 use denote.Ref.{now}
-use Rattle.bench_records.specs.Record.{little}
+use Rattle.little_endian.specs.Little.{little}
 use Rattle.bench_records.proofs.Little.{two}
 use Rattle.bench_records.proofs.u16_at.Statement.{statement}
 use Rattle.bench_records.proofs.u16_at.Tie as tie

@@ -5,7 +5,7 @@ use Prim.Native.Nat.{_+_}
 use native.Mathlib.Omega.{arith}
 use lib.ListN.{take, drop}
 use denote.Ref.{now}
-use Rattle.bench_records.specs.Record.{little}
+use Rattle.little_endian.specs.Little.{little}
 use Rattle.bench_records.proofs.Little.{twice}
 use Rattle.bench_records.proofs.u64_at.Statement.{statement}
 use Rattle.bench_records.proofs.u64_at.Tie as tie

@@ -1,0 +1,1 @@
+// Numbers as bytes, the lowest first: definitions and proofs only.
