@@ -1,0 +1,5 @@
+pub mod Partial
+pub mod Varint
+pub mod Field
+pub mod Message
+pub mod Examples
