@@ -1,9 +1,8 @@
 // The host, the link and the server together: what happens up to the host's next call, and what its answer leads to.
-ghost use mathlib.Core.Path.{_≡_};
 ghost use Prim.Native.Nat.{_≤_};
 ghost use lib.ListN.{length};
 ghost use Rattle.bidi_write.specs.View.{lengthOf};
-ghost use Rattle.transport.specs.View.{maybeLength, sentLength};
+ghost use Rattle.transport.specs.View.{sentLength};
 use crate::bank;
 use crate::bank::Bank;
 use crate::bank::EVENTS;
@@ -241,26 +240,10 @@ pub fn heard(mut w: World, a: Answer, out: &[u8]) -> World
 {
     let bank = w.bank.heard(a);
     w.bank = bank;
-    let r = request_in(a);
+    let r = transport::handed(a);
     match r {
         MaybeRequest::Absent => w,
         MaybeRequest::Present(x) => send(w, x, out),
-    }
-}
-
-fn request_in(a: Answer) -> MaybeRequest
-    ensures { λ r. ⌜ maybeLength r ≡ sentLength a ⌝ }
-{
-    match a {
-        Answer::Refused(_) => MaybeRequest::Absent,
-        Answer::Took(_, r) => r,
-        Answer::Sends(r) => MaybeRequest::Present(r),
-        Answer::Waits(r, _) => MaybeRequest::Present(r),
-        Answer::Completes(c) => c.request,
-        Answer::Attempt(_) => MaybeRequest::Absent,
-        Answer::Accepted => MaybeRequest::Absent,
-        Answer::Done => MaybeRequest::Absent,
-        Answer::Ends(_) => MaybeRequest::Absent,
     }
 }
 

@@ -94,14 +94,18 @@ abbrev pub maybeLength : MaybeRequest → ℕ
 maybeLength maybe.Absent = 0
 maybeLength (maybe.Present r) = lengthOf (r .«data»)
 
--- the length that an answer's request gives its data
+-- the request that an answer hands out
+abbrev pub handed : Answer → MaybeRequest
+handed (answer.Refused x) = maybe.Absent
+handed (answer.Took n r) = r
+handed (answer.Sends r) = maybe.Present r
+handed (answer.Waits r n) = maybe.Present r
+handed (answer.Completes c) = c .request
+handed (answer.Attempt n) = maybe.Absent
+handed answer.Accepted = maybe.Absent
+handed answer.Done = maybe.Absent
+handed (answer.Ends e) = maybe.Absent
+
+-- the length that it gives its data
 abbrev pub sentLength : Answer → ℕ
-sentLength (answer.Refused x) = 0
-sentLength (answer.Took n r) = maybeLength r
-sentLength (answer.Sends r) = lengthOf (r .«data»)
-sentLength (answer.Waits r n) = lengthOf (r .«data»)
-sentLength (answer.Completes c) = maybeLength (c .request)
-sentLength (answer.Attempt n) = 0
-sentLength answer.Accepted = 0
-sentLength answer.Done = 0
-sentLength (answer.Ends e) = 0
+sentLength a = maybeLength (handed a)

@@ -10,8 +10,8 @@ use Rattle.day.proofs.world.heard.Tie as tie
 heard-requires : tie.Need-heard-requires
 heard-requires c κs = search needs
 
-request-in-requires : tie.Need-request-in-requires
-request-in-requires c κs = search needs
+handed-requires : tie.Need-handed-requires
+handed-requires c κs = search needs
 
 enum-told : tie.Need-enum-told
 enum-told c = search needs
@@ -24,7 +24,7 @@ send-requires c κs =
     let known = c .before in
     let asked = known .before .before in
     let entry = asked .before .before .before in
-    let fits = subst (λ n. n ≤ length (entry .args .out .now)) (sym (asked .request-in .ensures)) (entry .pre) in
+    let fits = subst (λ x. maybeLength x ≤ length (entry .args .out .now)) (sym (asked .handed .ensures)) (entry .pre) in
     subst (λ x. maybeLength x ≤ length (entry .args .out .now)) (known .r .given .1) fits
 
 returns : tie.Need-returns
@@ -38,7 +38,7 @@ heard-spec =
     tie.close
     (tie.spec
     heard-requires
-    request-in-requires
+    handed-requires
     enum-told
     enum-known-r
     send-requires
