@@ -7,7 +7,7 @@ use Rattle.bidi_write.specs.declared.Refusal.the-variants as refusal
 use Rattle.bidi_write.specs.declared.Check.{Check}
 use Rattle.bidi_write.specs.declared.Check.the-variants as check
 
--- document 01's number of each refusal
+-- the number of each refusal: 1 to 13 are document 01's, those from 14 on document 02's
 abbrev pub numberOf : Refusal → ℕ
 numberOf refusal.Limits = 1
 numberOf refusal.ShortMemory = 2
@@ -22,6 +22,7 @@ numberOf refusal.PastEnd = 10
 numberOf refusal.ShortOut = 11
 numberOf refusal.Closed = 12
 numberOf refusal.BadVerdict = 13
+numberOf refusal.ShortBuffer = 14
 
 abbrev pub Rows : Type 0
 Rows = List (Bool × Refusal)

@@ -140,7 +140,7 @@ pub enum Call {
     FailedAttempt(Break, u8),
 }
 
-// Why a call was refused: document 01's numbers 1 to 13, in their order.
+// Why a call was refused: the papers' numbers 1 to 14, in their order.
 pub enum Refusal {
     Limits,
     ShortMemory,
@@ -155,6 +155,7 @@ pub enum Refusal {
     ShortOut,
     Closed,
     BadVerdict,
+    ShortBuffer,
 }
 
 // Whether a call goes on.
@@ -262,7 +263,7 @@ pub fn from_nat(n: u64) -> Offset
 
 // ---- refusals
 
-// Document 01's number of a refusal.
+// The papers' number of a refusal.
 pub fn refusal_number(x: Refusal) -> u64
     ensures { λ r. ⌜ r ≡ numberOf x ⌝ }
 {
@@ -280,6 +281,7 @@ pub fn refusal_number(x: Refusal) -> u64
         Refusal::ShortOut => 11,
         Refusal::Closed => 12,
         Refusal::BadVerdict => 13,
+        Refusal::ShortBuffer => 14,
     }
 }
 

@@ -20,6 +20,8 @@ use Rattle.transport.specs.declared.Session.{Session}
 use Rattle.transport.specs.declared.Outcome.{Outcome}
 use Rattle.transport.proofs.Claim.{bound-of}
 use Rattle.openings.proofs.Openings.{accepted-is}
+use Rattle.wire.specs.Sendable.{AlwaysSendable}
+use Rattle.wire.proofs.Sendable.{handed-out-reads}
 use Rattle.session.specs.Claim.{Ensures, Begins, Always, AlwaysCalled, StoredBound}
 
 -- a promise at memory that is the same
@@ -86,3 +88,7 @@ host-calls-hold = rules.program-calls-hold viewOf (Does Ensures) Begins ValidAt 
 
 pub host-stored-bound : StoredBound
 host-stored-bound = bound-of (Does Ensures) Begins keeps begun
+
+-- each request that a host's call hands out is written as the rules send it
+pub host-handed-out-reads : AlwaysSendable Ensures
+host-handed-out-reads c m out r store table out′ e = handed-out-reads c m out r store table out′ (promised c m out r store table out′ e)

@@ -1,0 +1,5 @@
+pub mod Signs
+pub mod Writing
+pub mod Range
+pub mod Answer
+pub mod Sendable
