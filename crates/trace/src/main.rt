@@ -1,6 +1,4 @@
 // Makes every call that the records on standard input name, and prints after each what it answered and the whole state: docs/TRACE.md.
-ghost use Prim.Native.Nat.{_≤_};
-
 mod script;
 
 use script::Stand;
@@ -10,6 +8,7 @@ use trace_records::fields::CUT;
 use trace_records::input::fetch;
 use trace_records::opening::read_lent;
 use trace_text::flush;
+use trace_text::least;
 use trace_text::part;
 use trace_text::text;
 
@@ -79,6 +78,7 @@ fn turn(
     match asks {
         Asks::Opening(at) => lend(input, out, store, table, room, q, at),
         Asks::Call(_) => q,
+        Asks::Write(_, _) => q,
         Asks::End => q.printed(text(out, p.waiting, b"\n")),
         Asks::Nothing => q,
     }
@@ -107,10 +107,4 @@ fn lend(
         p,
         at,
     )
-}
-
-fn least(a: usize, b: usize) -> usize
-    ensures { λ r. ⌜ r ≤ b ⌝ }
-{
-    if a < b { a } else { b }
 }

@@ -4,13 +4,19 @@ use openings::Opened;
 use trace_lines::answers::answer;
 use trace_lines::answers::opening;
 use trace_lines::states::state;
+use trace_lines::writing::write;
 use trace_records::Asks;
+use trace_records::Record;
+use trace_records::ends;
 use trace_records::fields::CUT;
 use trace_records::fields::Text;
+use trace_records::input::Fetched;
 use trace_records::input::fetch;
 use trace_records::opening::read_opening;
 use trace_text::part;
 use trace_text::text;
+use transport::Answer;
+use transport::MaybeRequest;
 use transport::Session;
 
 // Where a run stands: the bytes of the input buffer not used yet, whose start is CUT once the run is over, and how much of the output waits.
@@ -47,7 +53,7 @@ pub fn play(
     }
 }
 
-// The state, the next record's call, its answer.
+// The state, what is asked of the last request, the next call, its answer.
 fn follow(
     input: &mut [u8],
     out: &mut [u8],
@@ -61,15 +67,18 @@ fn follow(
     let mut n = p.waiting;
     let mut at = p.at;
     let mut end = p.end;
+    // of the last accepted call
+    let mut request = MaybeRequest::Absent;
     // a proved loop has to end, so it counts its turns down, from a number that no run uses up
     let mut turns = u64::MAX;
     while turns > 0 {
         turns -= 1;
         n = state_of(out, n, store, table, s);
-        let f = fetch(input, at, end);
-        let r = f.record;
+        let w = writes(input, out, room, at, end, n, request);
+        let r = w.record;
         at = r.next;
-        end = f.end;
+        end = w.end;
+        n = w.waiting;
         let asks = r.asks;
         let Asks::Call(call) = asks else {
             return over(out, asks, at, end, n);
@@ -90,8 +99,59 @@ fn follow(
         s = o.session;
         let a = o.answer;
         n = answer(out, n, call, a, room);
+        request = last(a, request);
     }
     over(out, Asks::Nothing, at, end, n)
+}
+
+// A refused call leaves the request of the one before.
+fn last(a: Answer, before: MaybeRequest) -> MaybeRequest {
+    let Answer::Refused(_) = a else {
+        return transport::handed(a);
+    };
+    before
+}
+
+// A record that is no WB, where the buffer's bytes end, and how much of the output waits.
+struct Asked {
+    record: Record,
+    end: usize,
+    waiting: usize,
+}
+
+// Each WB up to the next other record.
+fn writes(
+    input: &mut [u8],
+    out: &mut [u8],
+    room: &[u8],
+    at: usize,
+    end: usize,
+    n: usize,
+    request: MaybeRequest,
+) -> Asked {
+    let mut f = fetch(input, at, end);
+    let mut n = n;
+    let mut turns = u64::MAX;
+    while turns > 0 {
+        turns -= 1;
+        let r = f.record;
+        let asks = r.asks;
+        let Asks::Write(length, data) = asks else {
+            return behind(f, n);
+        };
+        n = write(out, n, request, room, data, length);
+        f = fetch(input, r.next, f.end);
+    }
+    behind(f, n)
+}
+
+fn behind(f: Fetched, waiting: usize) -> Asked {
+    let record = f.record;
+    Asked {
+        record,
+        end: f.end,
+        waiting,
+    }
 }
 
 // What a host sees of the session, and what else is in its record.
@@ -148,9 +208,9 @@ fn pass(input: &mut [u8], out: &mut [u8], at: usize, end: usize, n: usize) -> St
         at = r.next;
         end = f.end;
         let asks = r.asks;
-        let Asks::Call(_) = asks else {
+        if ends(asks) {
             return over(out, asks, at, end, n);
-        };
+        }
     }
     over(out, Asks::Nothing, at, end, n)
 }

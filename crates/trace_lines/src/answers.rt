@@ -23,7 +23,8 @@ pub fn answer(out: &mut [u8], n: usize, call: Call, a: Answer, room: &[u8]) -> u
     requires { ⌜ sentLength a ≤ length (now room) ⌝ }
 {
     let n = line(out, n, bench_lines::line(mark(call), a));
-    sent(out, n, a, room)
+    let n = maybe_fields(out, n, transport::handed(a), room);
+    ended(out, n, a)
 }
 
 fn mark(call: Call) -> Mark {
@@ -42,23 +43,11 @@ fn mark(call: Call) -> Mark {
     }
 }
 
-fn sent(out: &mut [u8], n: usize, a: Answer, room: &[u8]) -> usize
-    requires { ⌜ sentLength a ≤ length (now room) ⌝ }
-{
-    match a {
-        Answer::Refused(_) => n,
-        Answer::Took(_, r) => maybe_fields(out, n, r, room),
-        Answer::Sends(r) => fields(out, n, r, room),
-        Answer::Waits(r, _) => fields(out, n, r, room),
-        Answer::Completes(c) => {
-            let r = c.request;
-            maybe_fields(out, n, r, room)
-        }
-        Answer::Attempt(_) => n,
-        Answer::Accepted => n,
-        Answer::Done => n,
-        Answer::Ends(e) => ends(out, n, e.completed, e.failed),
-    }
+fn ended(out: &mut [u8], n: usize, a: Answer) -> usize {
+    let Answer::Ends(e) = a else {
+        return n;
+    };
+    ends(out, n, e.completed, e.failed)
 }
 
 fn ends(out: &mut [u8], n: usize, completed: usize, failed: usize) -> usize {

@@ -40,6 +40,8 @@ const VE: u16 = b'V' as u16 + 256 * b'E' as u16;
 
 const FA: u16 = b'F' as u16 + 256 * b'A' as u16;
 
+const WB: u16 = b'W' as u16 + 256 * b'B' as u16;
+
 const EN: u16 = b'E' as u16 + 256 * b'N' as u16;
 
 // What a record asks for.
@@ -47,10 +49,23 @@ pub enum Asks {
     // an opening, whose fields begin at this place
     Opening(usize),
     Call(Call),
+    // the last request's bytes, into a buffer of the first length, with as much of out lent as the second
+    Write(usize, usize),
     // the end of a script
     End,
     // the input has no whole record, or one that is not known
     Nothing,
+}
+
+// Whether it ends a script.
+pub fn ends(asks: Asks) -> bool {
+    match asks {
+        Asks::Opening(_) => true,
+        Asks::Call(_) => false,
+        Asks::Write(_, _) => false,
+        Asks::End => true,
+        Asks::Nothing => true,
+    }
 }
 
 // A record, where the bytes stand that its call brings, and where the next record begins.
@@ -79,6 +94,7 @@ pub fn read(input: &[u8], at: usize) -> Record {
         BR => stream_break(input, at),
         VE => verdict(input, at),
         FA => failed_attempt(input, at),
+        WB => write(input, at),
         EN => plain(Asks::End, at),
         _ => plain(Asks::Nothing, CUT),
     }
@@ -181,4 +197,11 @@ fn failed_attempt(input: &[u8], at: usize) -> Record {
         handle,
         b.next,
     )
+}
+
+fn write(input: &[u8], at: usize) -> Record {
+    let buffer = u16_at(input, at);
+    let data = u16_at(input, buffer.next);
+    let asks = Asks::Write(buffer.value as usize, data.value as usize);
+    plain(asks, data.next)
 }

@@ -1,4 +1,5 @@
 // What is printed goes to a buffer, of which the first n bytes wait. Each function takes n and gives the new one.
+ghost use Prim.Native.Nat.{_≤_};
 use libc::STDOUT_FILENO;
 use text::Line;
 
@@ -16,6 +17,13 @@ pub fn part(s: &[u8], from: usize, to: usize) -> &[u8] {
         return &s[..0];
     }
     &s[from..to]
+}
+
+// A length, cut down to what is there.
+pub fn least(a: usize, b: usize) -> usize
+    ensures { λ r. ⌜ r ≤ b ⌝ }
+{
+    if a < b { a } else { b }
 }
 
 // A full buffer is written first.

@@ -7,11 +7,11 @@ use Rattle.trace.proofs.script.follow.Statement.{statement}
 use Rattle.trace.proofs.script.follow.Tie as tie
 
 abbrev Inv-loop : tie.InvT-loop
-Inv-loop input₀ out₀ store₀ table₀ room₀ s₀ n₀ at₀ end₀ turns₀ input out store table room s n at end turns =
+Inv-loop input₀ out₀ store₀ table₀ room₀ s₀ n₀ at₀ end₀ request₀ turns₀ input out store table room s n at end request turns =
     (length input ≡ length input₀) × (length out ≡ length out₀) × (length store ≡ length store₀) × (length table ≡ length table₀) × (length room ≡ length room₀)
 
 abbrev μ-loop : tie.MeasureT-loop
-μ-loop input₀ out₀ store₀ table₀ room₀ s₀ n₀ at₀ end₀ turns₀ input out store table room s n at end turns =
+μ-loop input₀ out₀ store₀ table₀ room₀ s₀ n₀ at₀ end₀ request₀ turns₀ input out store table room s n at end request turns =
     turns
 
 loop-holds : tie.Need-loop-holds Inv-loop μ-loop
@@ -23,8 +23,8 @@ sub-turns c = search needs
 state-of-requires : tie.Need-state-of-requires Inv-loop μ-loop
 state-of-requires c κs = search needs
 
-fetch-requires : tie.Need-fetch-requires Inv-loop μ-loop
-fetch-requires c κs = search needs
+writes-requires : tie.Need-writes-requires Inv-loop μ-loop
+writes-requires c κs = search needs
 
 enum-known-asks : tie.Need-enum-known-asks Inv-loop μ-loop
 enum-known-asks c = search needs
@@ -33,19 +33,36 @@ over-requires : tie.Need-over-requires Inv-loop μ-loop
 over-requires c κs = search needs
 
 same-length : tie.Need-same-length Inv-loop μ-loop
-same-length c = c .before .before .before .before .before .before .before .before .fetch .kept .0 ∙ c .before .before .before .before .before .before .before .before .before .before .before .before .before .before .before .before .before .loop .inv .0
+same-length c =
+    let wrote = c .before .before .before .before .before .before .before .before .before .before in
+    let turn = wrote .before .before .before .before .before .before .before .before .before .before .before in
+    wrote .writes .kept .0 ∙ turn .loop .inv .0
 
 same-length-2 : tie.Need-same-length-2 Inv-loop μ-loop
-same-length-2 c = c .before .before .over .kept .0 ∙ c .before .before .before .before .before .before .before .before .before .before .before .before .state-of .kept .0 ∙ c .before .before .before .before .before .before .before .before .before .before .before .before .before .before .before .before .before .loop .inv .1
+same-length-2 c =
+    let over = c .before .before in
+    let wrote = over .before .before .before .before .before .before .before .before in
+    let shown = wrote .before .before .before .before .before .before in
+    let turn = shown .before .before .before .before .before in
+    over .over .kept .0 ∙ wrote .writes .kept .1 .0 ∙ shown .state-of .kept .0 ∙ turn .loop .inv .1
 
 same-length-3 : tie.Need-same-length-3 Inv-loop μ-loop
-same-length-3 c = c .before .before .before .before .before .before .before .before .before .before .before .before .before .before .before .before .before .loop .inv .2
+same-length-3 c =
+    let wrote = c .before .before .before .before .before .before .before .before .before .before in
+    let turn = wrote .before .before .before .before .before .before .before .before .before .before .before in
+    turn .loop .inv .2
 
 same-length-4 : tie.Need-same-length-4 Inv-loop μ-loop
-same-length-4 c = c .before .before .before .before .before .before .before .before .before .before .before .before .before .before .before .before .before .loop .inv .3
+same-length-4 c =
+    let wrote = c .before .before .before .before .before .before .before .before .before .before in
+    let turn = wrote .before .before .before .before .before .before .before .before .before .before .before in
+    turn .loop .inv .3
 
 same-length-5 : tie.Need-same-length-5 Inv-loop μ-loop
-same-length-5 c = c .before .before .before .before .before .before .before .before .before .before .before .before .before .before .before .before .before .loop .inv .4
+same-length-5 c =
+    let wrote = c .before .before .before .before .before .before .before .before .before .before in
+    let turn = wrote .before .before .before .before .before .before .before .before .before .before .before in
+    turn .loop .inv .4
 
 returns : tie.Need-returns Inv-loop μ-loop
 returns c = search needs
@@ -67,11 +84,29 @@ answer-requires c κs =
     let made = c .before .before .before .before .before .before .before .before .before in
     omega (arith, made .step .ensures .sent-in, made .step .kept .1 .1 .1 .1 .0)
 
+last-requires : tie.Need-last-requires Inv-loop μ-loop
+last-requires c κs = search needs
+
 loop-less : tie.Need-loop-less Inv-loop μ-loop
-loop-less c = search (needs, c .before .before .before .before .before .before .before .before .before .before .before .before .before .before .before .before .before .before .before .before .before .before .before .before .before .before .before .before .before .before .before .before .before .before .before .before .before)
+loop-less c =
+    let made = c .before .before .before .before .before .before .before .before .before .before .before .before .before in
+    let wrote = made .before .before .before .before .before .before .before .before .before .before .before .before .before .before .before .before .before .before .before in
+    let turn = wrote .before .before .before .before .before .before .before .before .before .before in
+    search (needs, turn)
 
 loop-again : tie.Need-loop-again Inv-loop μ-loop
-loop-again c = (c .before .before .before .before .before .before .before .before .before .before .before .before .before .before .before .before .before .before .before .before .before .before .before .before .before .before .before .before .before .fetch .kept .0 ∙ c .before .before .before .before .before .before .before .before .before .before .before .before .before .before .before .before .before .before .before .before .before .before .before .before .before .before .before .before .before .before .before .before .before .before .before .before .before .before .loop .inv .0, c .before .before .answer .kept .0 ∙ c .before .before .before .before .before .before .before .before .before .before .before .before .before .before .before .before .before .before .before .before .before .before .before .before .before .before .before .before .before .before .before .before .before .state-of .kept .0 ∙ c .before .before .before .before .before .before .before .before .before .before .before .before .before .before .before .before .before .before .before .before .before .before .before .before .before .before .before .before .before .before .before .before .before .before .before .before .before .before .loop .inv .1, c .before .before .before .before .before .before .before .before .before .before .before .before .step .kept .1 .1 .0 ∙ c .before .before .before .before .before .before .before .before .before .before .before .before .before .before .before .before .before .before .before .before .before .before .before .before .before .before .before .before .before .before .before .before .before .before .before .before .before .before .loop .inv .2, c .before .before .before .before .before .before .before .before .before .before .before .before .step .kept .1 .1 .1 .0 ∙ c .before .before .before .before .before .before .before .before .before .before .before .before .before .before .before .before .before .before .before .before .before .before .before .before .before .before .before .before .before .before .before .before .before .before .before .before .before .before .loop .inv .3, c .before .before .before .before .before .before .before .before .before .before .before .before .step .kept .1 .1 .1 .1 .0 ∙ c .before .before .before .before .before .before .before .before .before .before .before .before .before .before .before .before .before .before .before .before .before .before .before .before .before .before .before .before .before .before .before .before .before .before .before .before .before .before .loop .inv .4)
+loop-again c =
+    let said = c .before .before .before in
+    let made = said .before .before .before .before .before .before .before .before .before .before in
+    let wrote = made .before .before .before .before .before .before .before .before .before .before .before .before .before .before .before .before .before .before .before in
+    let shown = wrote .before .before .before .before .before .before in
+    let turn = shown .before .before .before .before .before in (
+      wrote .writes .kept .0 ∙ turn .loop .inv .0,
+      said .answer .kept .0 ∙ wrote .writes .kept .1 .0 ∙ shown .state-of .kept .0 ∙ turn .loop .inv .1,
+      made .step .kept .1 .1 .0 ∙ turn .loop .inv .2,
+      made .step .kept .1 .1 .1 .0 ∙ turn .loop .inv .3,
+      made .step .kept .1 .1 .1 .1 .0 ∙ turn .loop .inv .4,
+    )
 
 over-requires-2 : tie.Need-over-requires-2 Inv-loop μ-loop
 over-requires-2 c κs = search needs
@@ -103,7 +138,7 @@ follow-spec =
     loop-holds
     sub-turns
     state-of-requires
-    fetch-requires
+    writes-requires
     enum-known-asks
     over-requires
     same-length
@@ -117,6 +152,7 @@ follow-spec =
     text-of-requires-3
     step-requires
     answer-requires
+    last-requires
     loop-less
     loop-again
     over-requires-2
