@@ -1,4 +1,5 @@
-"""When the two programs agree on a script: equal outputs, but for the list below.
+"""When the two programs agree on a script: equal outputs, but for the list below. Of a message that is written (`wb`) the length must be equal, and in place of
+its bytes, whose fields may come in any order, stands on one side the request handed out, on the other what the crate's decoder reads back.
 
 Intended differences that a script can show:
 
@@ -7,7 +8,14 @@ Intended differences that a script can show:
   compared.
 
 Others can't be shown by a script: the attempt number at 2^32 - 1, which the crate's would pass, and 2^64 - 1 waiters. docs/DIFFERENCES.md has all of them.
+
+Intended differences in what bytes read as, which the examples show:
+
+- a group, wire types 3 and 4: the crate's decoder skips one whose number it does not know; here it is malformed.
 """
+
+# the fields that hold a message, by number
+EMBEDDED = (4, 6)
 
 
 def comparable(crate, port):
@@ -54,3 +62,34 @@ def first_difference(crate, port):
         if a != b:
             return a, b
     raise ValueError("they agree")
+
+
+def intended(message):
+    """the kind of difference that these bytes may show"""
+    return "a group" if has_group(message) else None
+
+
+def has_group(message):
+    """whether a group begins in the message or in one that it holds"""
+    at = 0
+    while at < len(message):
+        key, at = varint(message, at)
+        number, kind = key >> 3, key & 7
+        if kind == 3:
+            return True
+        if kind == 0:
+            _, at = varint(message, at)
+        elif kind == 2:
+            length, at = varint(message, at)
+            if number in EMBEDDED and has_group(message[at : at + length]):
+                return True
+            at += length
+        else:
+            at += {1: 8, 5: 4}.get(kind, len(message))
+    return False
+
+
+def varint(message, at):
+    """a number, as far as it goes, and where it ends"""
+    end = next((i for i in range(at, len(message)) if message[i] < 128), len(message)) + 1
+    return sum((byte & 127) << 7 * i for i, byte in enumerate(message[at:end])), end

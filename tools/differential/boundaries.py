@@ -1,8 +1,8 @@
-"""Document 01's boundary cases as scripts: for each its name, its calls, and what its opening has that the others have not.
+"""Document 01's boundary cases, and those of written requests, as scripts: for each its name, its calls, and what its opening has that the others have not.
 
 A call is the mark of its record (docs/TRACE.md) and what it brings, as in docs/DIFFERENCES.md. AP has the bytes, the letters of their offsets from a to z and
 again. RS and HS have a size or none, and `resource` or `finalised` where a resource holds it, or `handle` and the length of one. BR, and FA behind its verdict,
-have a word of BREAKS, or none for an end of stream.
+have a word of BREAKS, or none for an end of stream. WB has the lengths of buffer and data.
 
 No record says what the program `extremes` has: C and capacity at 2^64 - 1, bytes of a handle or a token that is not given, a call after a refused opening, the
 attempt number at 2^32 - 1, and the 2^64 - 1st waiter.
@@ -10,7 +10,8 @@ attempt number at 2^32 - 1, and the 2^64 - 1st waiter.
 
 import dataclasses
 
-from .calls import BUCKET, Append, Break, FailedAttempt, Handshake, Opening, Plain, Redirect, Response, Script, Verdict
+from .calls import BUCKET, Append, Break, FailedAttempt, Handshake, Opening, Plain, Redirect, Response, Script, Verdict, Write
+from .messages import length
 from .moves import ABORTED, HIGH, LOW
 
 PREFIX = BUCKET[:-1]
@@ -50,6 +51,8 @@ def call(text):
         return BREAKS[more]
     if mark == "VE":
         return Verdict(int(more))
+    if mark == "WB":
+        return Write(*(int(n) for n in more.split()))
     if mark == "FA":
         verdict, _, how = more.partition(" ")
         return FailedAttempt(int(verdict), BREAKS[how])
@@ -290,4 +293,47 @@ FAILURES = [
     case("failed after append", "AP abcd, AP e, SF, BR"),
 ]
 
-CASES = OPENINGS + LENGTHS + PHASES + ENDED + CLOSED + ROOM + SIZES + FINALS + PAYLOADS + RINGS + ATTEMPTS + REDIRECTS + FAILURES
+
+
+def writes(offset, data=None, flags=0, summed=False):
+    """that request, with a buffer just long enough, one byte short, and with one byte of data less"""
+    n, lent = length(offset, data, flags, summed), data or 0
+    return f"WB {n} {lent}, WB {n - 1} {lent}" + (f", WB {n} {lent - 1}" if lent else "")
+
+
+def written_flush(offset):
+    return case(f"written, offset {offset}", f"FL, {writes(offset, None, 2)}", response=Response(offset))
+
+
+def written_chunk(offset, n):
+    """an append of C bytes"""
+    text = "".join(chr(97 + i % 26) for i in range(n))
+    calls = f"AP {text}, {writes(offset, n, 2)}"
+    return case(f"written, {n} bytes at {offset}", calls, chunk=n, capacity=0, store=4 * n - 1, out=n, response=Response(offset))
+
+
+# Refusal 14, at each border of a number's length and of a part's. With 120 bytes of data the part that holds them and their sum has 127, with 121 it has 128.
+WRITTEN = [
+    *(written_flush(p) for p in (0, 1, 127, 128, 2**14 - 1, 2**14, 2**14 + 1, 2**21 - 1, 2**21, HIGH)),
+    *(written_chunk(0, n) for n in (1, 2, 120, 121, 127, 128, 8192)),
+    *(written_chunk(p, 1) for p in (1, 127, 128, 2**14 - 1, 2**14, HIGH - 1)),
+    case("written, no bytes", f"BR, VE 1, HS -1, NX, {writes(0, 0)}, NX, WB 99 0", payload=b"", response=Response(-1)),
+    case("written, one byte left", f"RS 3, BR, VE 1, HS, NX, {writes(3, 1)}, NX, {writes(4, None, 2)}, NX, WB 99 4", payload=b"abcd"),
+    case("written, finalise with a sum", f"FI, {writes(0, None, 2, True)}"),
+    case("written, finalise with a sum at 5", f"FI, {writes(5, None, 2, True)}", response=Response(5), sum=2**32 - 1),
+    case("written, finalise without a sum", f"FI, {writes(5, None, 2)}", response=Response(5)),
+    case("written, bare flush by a response", f"AP abcd, RS 0, {writes(4, None, 2)}"),
+    case("written, replayed flush", f"FL, BR, VE 1, WB 9 0, HS, WB 9 0, NX, {writes(0, None, 2)}, NX, WB 9 0"),
+    case("written, none handed out", "WB 99 4, AP ab, WB 99 4, FL, WB 99 4, AP, WB 99 4, FL, WB 99 4, RS 0, WB 99 4, CL, WB 99 4"),
+    case("written behind a refusal", "AP abcd, VE 1, WB 99 4, RS handle 1025, WB 99 4, AP, WB 99 4"),
+    case("written behind the end", "FL, RS -1, WB 99 4, FL, WB 99 4"),
+    case("written before a failure", "AP abcd, WB 99 4, VE 1, WB 0 0, SF, WB 99 4, SF, WB 99 4"),
+    case("written, bare flush before its failure", "AP abcd, RS 0, WB 99 4, SF, WB 99 4, RS 0, WB 99 4, SF"),
+    case("written in a replay before its failure", "AP abcd, BR, VE 1, HS 0, NX, WB 99 4, SF, WB 99 4, NX"),
+    case("written between a break and its verdict", "FL, BR, WB 9 0, VE 1, WB 9 0"),
+    case("written, all lent that may be", "AP abcd, WB 65535 65535, WB 16384 4, WB 0 65535, WB 65535 0", out=65535),
+    case("written, no session", "WB 99 4", chunk=0),
+    ("written before the opening", Script([Write(), OPENING, Write(), Plain(b"FL"), Write()])),
+]
+
+CASES = OPENINGS + LENGTHS + PHASES + ENDED + CLOSED + ROOM + SIZES + FINALS + PAYLOADS + RINGS + ATTEMPTS + REDIRECTS + FAILURES + WRITTEN

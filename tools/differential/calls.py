@@ -149,6 +149,20 @@ FLUSH, FINALISE, CLOSE, NEXT, SEND_FAILED = (Plain(mark) for mark in (b"FL", b"F
 
 
 @dataclasses.dataclass(frozen=True)
+class Write(Record):
+    """No call of a session: writes as bytes the request that the last accepted one handed out."""
+
+    # the lengths of what is lent
+    buffer: int = 16384
+    data: int = 8192
+
+    mark, name = b"WB", "write"
+
+    def fields(self):
+        return struct.pack("<HH", self.buffer, self.data)
+
+
+@dataclasses.dataclass(frozen=True)
 class Opening(Record):
     chunk: int = 4
     capacity: int | None = 9

@@ -1,12 +1,12 @@
 """Every accepted list of bench calls up to a depth, for C 2 and capacity 5, and every list that a refused call of these kinds ends; behind each one more
-refused call, a verdict of 5, which no phase takes.
+refused call, a verdict of 5, which no phase takes, and the last accepted call's request as bytes.
 
 An append of the bench is called again till all is taken, a flush or finalise till it makes its waiter: the records of docs/TRACE.md name each of these calls.
 """
 
 import struct
 
-from .calls import CLOSE, FINALISE, FLUSH, NEXT, Append, Break, Handshake, Opening, Response, Script, Verdict
+from .calls import CLOSE, FINALISE, FLUSH, NEXT, Append, Break, Handshake, Opening, Response, Script, Verdict, Write
 from .moves import State
 
 OPENING = Opening(chunk=2, capacity=5, response=Response(0))
@@ -23,7 +23,7 @@ class Node:
         self.calls, self.bench = calls, bench
 
     def script(self):
-        return Script(self.calls + [REFUSED])
+        return Script(self.calls + [REFUSED, Write()])
 
     def bench_records(self):
         return self.bench + REFUSED.record()
@@ -80,9 +80,9 @@ def following(s):
 
 
 def is_refused(output):
-    """whether the last call but the refused one behind it was"""
+    """whether the last call was, behind which stand the refused one and the request as bytes"""
     answers = [line for line in output.split(b"\n") if not line.startswith(b"  ")]
-    return answers[-2][3:4] == b"E"
+    return answers[-3][3:4] == b"E"
 
 
 def batches(depth, oracle):

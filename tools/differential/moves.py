@@ -1,8 +1,12 @@
-"""Random scripts that go deep. A script grows by moves, short lists of calls that are chosen from the state that the oracle shows for it so far."""
+"""Random scripts that go deep. A script grows by moves, short lists of calls that are chosen from the state that the oracle shows for it so far. Then requests
+that its calls hand out are written, with buffers around the length of the message, which the oracle's lines tell."""
 
+import itertools
 import re
 
-from .calls import CLOSE, FINALISE, FLUSH, NEXT, SEND_FAILED, Append, Break, FailedAttempt, Handshake, Opening, Redirect, Response, Script, Verdict
+from .agree import calls as calls_of
+from .calls import CLOSE, FINALISE, FLUSH, NEXT, SEND_FAILED, Append, Break, FailedAttempt, Handshake, Opening, Redirect, Response, Script, Verdict, Write
+from .messages import needs
 
 LOW, HIGH = -(2**63), 2**63 - 1
 ABORTED = 10
@@ -297,7 +301,8 @@ def random_scripts(rng, count, oracle):
         grown = [i for i in range(count) if grow(rng, scripts[i], outputs[i])]
         for i, output in zip(grown, oracle.run([scripts[i] for i in grown])):
             outputs[i] = output
-    return scripts, outputs
+    scripts = [with_writes(rng, script, output) for script, output in zip(scripts, outputs)]
+    return scripts, oracle.run(scripts)
 
 
 def grow(rng, script, output):
@@ -306,3 +311,24 @@ def grow(rng, script, output):
         return False
     script.extend(move(rng, s))
     return True
+
+
+def with_writes(rng, script, output):
+    """writes behind calls, mostly behind those that hand out a request"""
+    calls, request = [], None
+    for call, lines in itertools.zip_longest(script.calls, calls_of(output), fillvalue=[]):
+        if not call:
+            break
+        calls.append(call)
+        handed = next((line[5:] for line in lines if line.startswith(b"  rq ")), None)
+        request = handed or request
+        calls += [write(rng, request) for _ in range(2) if rng.random() < (0.25 if handed else 0.02)]
+    return Script(calls)
+
+
+def write(rng, request):
+    """what is lent is around what the request needs"""
+    message, content = needs(request) if request else (rng.choice([0, 4, 20]), 0)
+    buffer = rng.choice([message] * 4 + [message - 1] * 2 + [message + 1, message + rng.randint(1, 40), 0, 2**16 - 1])
+    lent = rng.choice([content] * 6 + [content - 1, content - 1, content + 1, 0, 8192, 2**16 - 1])
+    return Write(max(buffer, 0), max(lent, 0))

@@ -14,10 +14,6 @@ HELD = re.compile(rb" held=(\w*) ")
 DATA = re.compile(rb"\n  rq off=\d+ data=(\w*)/")
 
 
-def words(oracle, mode, lines):
-    return oracle.mode(mode).raw("".join(line + "\n" for line in lines).encode()).split(b"\n")[:-1]
-
-
 def sums(rng, oracle, port):
     """the sum of a chunk, and the running sum joined with it: every length to 300, and others to 8,192"""
     texts = [rng.randbytes(n) for n in [*range(1, 301), *(rng.randint(301, 8192) for _ in range(200))]]
@@ -27,8 +23,8 @@ def sums(rng, oracle, port):
     # one of C bytes is cut by the append itself
     outputs = port.run([Script([o, Append(t)] + [FLUSH] * (len(t) < 8192)) for o, t in zip(opening, texts)])
     shown = [b" ".join([CHUNKS.findall(o)[-1].split(b":")[2].strip(), RUN.findall(o)[-1]]) for o in outputs]
-    alone = words(oracle, "crc", [t.hex() for t in texts])
-    joined = words(oracle, "crc", [f"{b:08x} {t.hex()}" for b, t in zip(before, texts)])
+    alone = oracle.mode("crc").words([t.hex() for t in texts])
+    joined = oracle.mode("crc").words([f"{b:08x} {t.hex()}" for b, t in zip(before, texts)])
     return shown, [b" ".join(pair) for pair in zip(alone, joined)]
 
 
@@ -49,7 +45,7 @@ def appends(rng, oracle, port):
     pushes = [(limit, pushed(rng, limit)) for limit in [rng.choice([1, 2, 3, 4, 5, 7, 16, 33, 100]) for _ in range(3000)]]
     outputs = port.run([Script(repeated(limit, texts)) for limit, texts in pushes])
     shown = [b" ".join(DATA.findall(o)) + b" +" + HELD.findall(o)[-1] for o in outputs]
-    return shown, words(oracle, "coalesce", [" ".join([f"{limit:x}"] + [t.hex() for t in texts]) for limit, texts in pushes])
+    return shown, oracle.mode("coalesce").words([" ".join([f"{limit:x}"] + [t.hex() for t in texts]) for limit, texts in pushes])
 
 
 def pushed(rng, limit):

@@ -3,7 +3,8 @@
 import re
 
 from .agree import calls as calls_of
-from .calls import Append
+from .calls import Append, Opening
+from .messages import needs
 from .moves import ABORTED, HIGH, LOW
 
 FIELD = re.compile(rb"(\w+)=(\[.*?\]|\S*)")
@@ -55,6 +56,9 @@ OTHERS = [
     "Write with generation 0", "Write loses handle", "opening without size", "opening resource", "opening sum taken", "opening sum unknown",
     "payload, P negative", "payload, P zero", "payload, P inside", "payload, P at its end", "payload, P above its end", "empty payload kept",
     "empty payload gone", "last size above P", "last size below P", "capacity raised", "metageneration conditions",
+    "WB chunk", "WB flush", "WB finish with sum", "WB finish without sum", "WB replayed", "WB exact", "WB longer", "WB E14: buffer one short",
+    "WB E14: data one short", "WB - behind OP", "WB - behind another call", "WB - behind SF", "WB - behind an empty append", "WB - behind the end",
+    "WB behind refused", "failed send behind WB",
 ]  # fmt: skip
 FEATURES = (
     OPENING
@@ -86,7 +90,9 @@ class View:
 def reached(script, output):
     """the set of features of a script"""
     lines = calls_of(output)
-    opening = script.calls[0]
+    # a record before the opening prints nothing
+    calls = script.calls[[isinstance(call, Opening) for call in script.calls].index(True) :]
+    opening = calls[0]
     answer = lines[0][0].decode()
     if answer != "OP ok":
         return unopened(opening, answer)
@@ -94,8 +100,15 @@ def reached(script, output):
     found = opened(opening, before)
     sent = between = None
     failed = False
-    for call, text in zip(script.calls[1:], lines[1:]):
+    last, request = "OP", None
+    for call, text in zip(calls[1:], lines[1:]):
         mark, answer = text[0].decode("latin1").split(" ", 1)
+        if mark == "WB":
+            found |= written(call, answer, last, request)
+            if between == "failed send behind refused" and request:
+                found.add("WB behind refused")
+            between = "failed send behind WB"
+            continue
         after = View(text[-1])
         if answer.startswith("E"):
             found.add(f"{mark} {answer}")
@@ -104,6 +117,7 @@ def reached(script, output):
             continue
         if mark == "AP" and not call.data:
             found |= {"append of nothing"} | ({"empty append after the end"} if before.phase == "Ended" else set())
+            last, request = "an empty append", None
             between = "failed send behind an empty append"
             continue
         found.add(f"{mark} in {before.phase}")
@@ -114,6 +128,7 @@ def reached(script, output):
             failed = False
         found |= accepted(mark, call, answer, before, after)
         sent, between = sender(mark, answer, before), None
+        last, request = "the end" if answer == "end" else mark, next((line[5:] for line in text if line.startswith(b"  rq ")), None)
         before = after
     return found & set(FEATURES)
 
@@ -171,6 +186,26 @@ def sender(mark, answer, before):
     if mark == "NX" and answer != "done":
         return {"replayed chunk": "failed NX chunk", "replayed bare flush": "failed NX bare flush"}.get(replayed(answer, before), "failed NX waiter")
     return None
+
+
+def written(w, answer, last, request):
+    """`last`: the last accepted call; `request`: what it handed out"""
+    if request is None:
+        return {f"WB - behind {last}", "WB - behind another call"} if last != "OP" else {"WB - behind OP"}
+    message, content = needs(request)
+    refused, data, finish, summed = answer == "E14", b" data=none " not in request, b" w=1 " in request, not request.endswith(b" sum=none")
+    rules = {
+        "WB E14: buffer one short": refused and w.buffer == message - 1 and w.data >= content,
+        "WB E14: data one short": refused and w.buffer >= message and w.data == content - 1,
+        "WB exact": not refused and w.buffer == message,
+        "WB longer": not refused and w.buffer > message,
+        "WB chunk": not refused and data,
+        "WB flush": not refused and not data and not finish,
+        "WB finish with sum": not refused and finish and summed,
+        "WB finish without sum": not refused and finish and not summed,
+        "WB replayed": not refused and last == "NX",
+    }
+    return {name for name, holds in rules.items() if holds}
 
 
 def accepted(mark, call, answer, before, after):

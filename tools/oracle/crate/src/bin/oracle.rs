@@ -3,9 +3,14 @@
 //!   bench     the bench records and lines of document 01
 //!   crc       a line each: HEX, its CRC32C; SUM HEX, the sum of what has SUM and of HEX behind it
 //!   coalesce  a line each: C and pushes, all in hexadecimal; the chunks that `CoalescingBuffer::push` gives, and behind `+` what it still holds
-//! In both formats of records a script ends at EN, another may follow, and an empty line is written behind it.
+//!   decode    a line each: HEX, and what the crate's decoder makes of it as a BidiWriteObjectRequest: the fields as in a trace's `rq` line, `malformed`,
+//!             or `another request`, one that no session sends after opening
+//!   encode    a line each: HEX, and what the crate's encoder writes for what the decoder makes of it, or `malformed`
+//!   vectors   the records of the program `wire_vectors`: `E14`, or the count and the bytes that the crate's encoder writes
+//! In the formats of trace and bench a script ends at EN, another may follow, and an empty line is written behind it.
 use google_cloud_storage::oracle::lines::hex;
 use google_cloud_storage::oracle::records::{Format, Reader, next_script};
+use google_cloud_storage::oracle::wire::{self, Vector};
 use google_cloud_storage::oracle::{coalesced, runner};
 use std::io::{Read, Write};
 
@@ -18,8 +23,11 @@ fn main() {
         "bench" => scripts(&input, Format::Bench),
         "crc" => lines(&input, sum),
         "coalesce" => lines(&input, coalesce),
+        "decode" => lines(&input, |words| wire::read(&bytes(words[0]))),
+        "encode" => lines(&input, |words| wire::write_again(&bytes(words[0]))),
+        "vectors" => vectors(&input),
         _ => {
-            eprintln!("usage: oracle trace|bench|crc|coalesce");
+            eprintln!("usage: oracle trace|bench|crc|coalesce|decode|encode|vectors");
             std::process::exit(2);
         }
     }
@@ -30,6 +38,14 @@ fn scripts(input: &[u8], format: Format) {
     let mut reader = Reader { bytes: input };
     while let Some(script) = next_script(&mut reader, format) {
         out.write_all(runner::run(&script, format).as_bytes()).expect("stdout");
+    }
+}
+
+fn vectors(input: &[u8]) {
+    let mut out = std::io::BufWriter::new(std::io::stdout().lock());
+    let mut reader = Reader { bytes: input };
+    while let Some(vector) = Vector::next(&mut reader) {
+        writeln!(out, "{}", vector.answer()).expect("stdout");
     }
 }
 

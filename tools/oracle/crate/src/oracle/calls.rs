@@ -89,6 +89,8 @@ pub enum Call {
     Handshake(Response),
     Next,
     SendFailed,
+    /// No call of a session: the request that the last accepted one handed out is written as bytes. The lengths of what is lent.
+    Write { buffer: usize, data: usize },
 }
 
 impl Call {
@@ -106,6 +108,7 @@ impl Call {
             Call::Handshake(_) => "HS",
             Call::Next => "NX",
             Call::SendFailed => "SF",
+            Call::Write { .. } => "WB",
         }
     }
 

@@ -1,6 +1,7 @@
 //! The text of requests and states: docs/TRACE.md, and the short form of document 01's bench lines.
 use super::probe::{TransportView, Views};
 use super::session::Phase;
+use super::wire;
 use crate::google::storage::v2::BidiWriteObjectRequest;
 use crate::google::storage::v2::bidi_write_object_request::Data;
 use crate::storage::bidi_write::state::AppendObjectSpecState;
@@ -22,10 +23,7 @@ fn number(value: Option<i64>) -> String {
 
 /// offset:length:flags
 pub fn short(r: &BidiWriteObjectRequest) -> String {
-    let length = match &r.data {
-        Some(Data::ChecksummedData(d)) => d.content.len(),
-        None => 0,
-    };
+    let length = wire::content_length(r);
     let mut flags = String::new();
     for (set, letter) in [(r.flush, 'f'), (r.state_lookup, 's'), (r.finish_write, 'w')] {
         if set {
@@ -38,13 +36,17 @@ pub fn short(r: &BidiWriteObjectRequest) -> String {
     format!("{}:{length}:{flags}", r.write_offset)
 }
 
+/// The line of a request.
+pub fn request(r: &BidiWriteObjectRequest) -> String {
+    format!("  rq {}", fields(r))
+}
+
 /// Every field that a request after opening can have; the others are absent.
 pub fn fields(r: &BidiWriteObjectRequest) -> String {
-    assert!(r.first_message.is_none() && r.common_object_request_params.is_none());
-    assert!(r.object_checksums.as_ref().is_none_or(|s| s.md5_hash.is_empty()));
+    assert!(wire::is_sent_after_opening(r));
     let data = r.data.as_ref().map(|Data::ChecksummedData(d)| format!("{}/{}", hex(&d.content), sum(d.crc32c)));
     format!(
-        "  rq off={} data={} f={} s={} w={} sum={}",
+        "off={} data={} f={} s={} w={} sum={}",
         r.write_offset,
         or_none(data, |d| d),
         r.flush as u8,

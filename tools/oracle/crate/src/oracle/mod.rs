@@ -7,6 +7,7 @@ pub mod records; // the two binary formats
 pub mod refusals; // the refusals that document 01 adds: nothing of the crate
 pub mod runner; // one script
 pub mod session; // one session
+pub mod wire; // requests as bytes
 
 /// The two sizes that document 01 lets vary; they are constants in the crate.
 pub mod sizes {

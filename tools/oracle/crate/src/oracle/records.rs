@@ -5,6 +5,7 @@ use super::calls::{Break, Call, Opening, Redirect, Response, WriteStatus};
 const STORE: u16 = 32_768;
 const SLOTS: u16 = 64;
 const OUT: u16 = 8_192;
+const BUFFER: u16 = 16_384;
 
 #[derive(Clone, Copy, PartialEq)]
 pub enum Format {
@@ -53,16 +54,16 @@ impl<'a> Reader<'a> {
         self.bytes = rest;
         Some(front)
     }
-    fn u8(&mut self) -> Option<u8> {
+    pub fn u8(&mut self) -> Option<u8> {
         Some(self.take(1)?[0])
     }
-    fn u16(&mut self) -> Option<u16> {
+    pub fn u16(&mut self) -> Option<u16> {
         Some(u16::from_le_bytes(self.take(2)?.try_into().ok()?))
     }
-    fn u32(&mut self) -> Option<u32> {
+    pub fn u32(&mut self) -> Option<u32> {
         Some(u32::from_le_bytes(self.take(4)?.try_into().ok()?))
     }
-    fn i64(&mut self) -> Option<i64> {
+    pub fn i64(&mut self) -> Option<i64> {
         Some(i64::from_le_bytes(self.take(8)?.try_into().ok()?))
     }
     fn flag(&mut self) -> Option<bool> {
@@ -90,6 +91,7 @@ impl<'a> Reader<'a> {
             b"VE" => Call::Verdict(self.u8()?),
             b"FA" => Call::FailedAttempt(self.u8()?, self.break_()?),
             b"SF" => Call::SendFailed,
+            b"WB" => Call::Write { buffer: self.u16()?.min(BUFFER).into(), data: self.u16()?.into() },
             _ => return plain(mark),
         })
     }

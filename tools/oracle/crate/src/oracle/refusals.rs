@@ -91,7 +91,7 @@ fn is_phase(phase: Phase, call: &Call, cuts: bool, sent: bool) -> bool {
         Call::FailedAttempt(..) | Call::Handshake(_) => phase == Phase::Connecting,
         Call::Next => phase == Phase::Replay,
         Call::SendFailed => sent,
-        Call::Open(_) => false,
+        Call::Open(_) | Call::Write { .. } => false,
     }
 }
 

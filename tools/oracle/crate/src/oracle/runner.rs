@@ -8,7 +8,7 @@ use super::probe::{self, Views};
 use super::records::{Format, Script};
 use super::refusals::{self, Facts};
 use super::session::{Phase, Session};
-use super::{lines, sizes};
+use super::{lines, sizes, wire};
 use crate::google::storage::v2::BidiWriteObjectRequest;
 use crate::storage::bidi_write::connector::oracle_accepts_bucket;
 use std::collections::BTreeSet;
@@ -56,6 +56,8 @@ struct Runner<'a> {
     session: Option<Session>,
     facts: Facts,
     waiters_made: u64,
+    /// The request that the last accepted call handed out.
+    handed_out: Option<BidiWriteObjectRequest>,
     /// A verdict is awaited. The crate has asked for it and heard it already; until then its state is shown as it was when it asked.
     asked: Option<Asked>,
     /// A bare flush was answered on a connection whose sends fail. The crate has not marked it; the host has not reported it.
@@ -75,6 +77,7 @@ impl<'a> Runner<'a> {
             session: None,
             facts: Facts::default(),
             waiters_made: 0,
+            handed_out: None,
             asked: None,
             unreported: false,
         }
@@ -107,14 +110,16 @@ impl<'a> Runner<'a> {
         }
     }
 
-    /// The answer of a call, its request, and the state after it.
+    /// The answer of an accepted call, its request, and the state after it.
     fn answer(&mut self, answer: &str, request: Option<&BidiWriteObjectRequest>) {
-        self.answer_with(answer, request.map(lines::fields));
+        self.handed_out = request.cloned();
+        self.answer_with(answer, request.map(lines::request));
     }
 
     /// The call ended the session, before which so many waited. The worker's last probe was before it failed those that were left.
     fn ends(&mut self, waiting: usize) {
         let failed = self::waiting();
+        self.handed_out = None;
         self.answer_with("end", Some(format!("  en completed={} failed={failed}", waiting - failed)));
     }
 
@@ -154,6 +159,7 @@ impl<'a> Runner<'a> {
             Call::Append(bytes) => self.appends(bytes),
             Call::Flush | Call::Finalize => self.asks(call),
             Call::SendFailed => self.send_failed(call),
+            Call::Write { buffer, data } => self.write(*buffer, *data),
             _ => self.other(call),
         }
     }
@@ -191,7 +197,7 @@ impl<'a> Runner<'a> {
         let phase = session.phase;
         let view = session.transport_view().clone();
         if let Some(n) = refusals::later(phase, &view, &self.facts, call) {
-            self.answer(&format!("E{n}"), None);
+            self.answer_with(&format!("E{n}"), None);
             return false;
         }
         if self.unreported && !matches!(call, Call::SendFailed) {
@@ -291,7 +297,7 @@ impl<'a> Runner<'a> {
             }
             Call::FailedAttempt(verdict, b) => self.failed_attempt(*verdict, b),
             Call::Next => self.next(),
-            Call::Open(_) | Call::Append(_) | Call::Flush | Call::Finalize | Call::SendFailed => unreachable!(),
+            Call::Open(_) | Call::Append(_) | Call::Flush | Call::Finalize | Call::SendFailed | Call::Write { .. } => unreachable!(),
         }
     }
 
@@ -394,6 +400,17 @@ impl<'a> Runner<'a> {
             self.session().phase = Phase::Live;
         }
         self.answer("ok", None);
+    }
+
+    /// Neither accepted nor refused as a call is, so that it is nothing between a send and its failure. At most the out buffer is lent.
+    fn write(&mut self, buffer: usize, data: usize) {
+        let lent = data.min(self.facts.out);
+        let written = self.handed_out.as_ref().map(|r| wire::write(r, buffer, lent));
+        match written {
+            None => self.line("WB -"),
+            Some(None) => self.line("WB E14"),
+            Some(Some(bytes)) => self.line(&format!("WB {}\n  wb {}", bytes.len(), lines::hex(&bytes))),
+        }
     }
 }
 
