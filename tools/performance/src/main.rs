@@ -7,6 +7,9 @@ mod theirs;
 mod time;
 
 use bytes::Bytes;
+use google::storage::v2::{BidiWriteObjectRequest, ChecksummedData, ObjectChecksums, bidi_write_object_request::Data};
+use prost::Message;
+use std::cell::RefCell;
 use std::env;
 use std::hint::black_box;
 use std::path::{Path, PathBuf};
@@ -111,6 +114,47 @@ fn join_row(name: &str, length: usize) {
     println!("| {name} | {:.0} | {:.0} | {:.2} |", theirs / n, ours / n, ours / theirs);
 }
 
+/// The request of a chunk, which asks for a flush.
+fn chunk_request(content: Bytes) -> BidiWriteObjectRequest {
+    let crc32c = Some(crc32c::crc32c(&content));
+    BidiWriteObjectRequest { data: Some(Data::ChecksummedData(ChecksummedData { content, crc32c })), ..flush_request() }
+}
+
+fn flush_request() -> BidiWriteObjectRequest {
+    BidiWriteObjectRequest { write_offset: 4 * MIB as i64, flush: true, state_lookup: true, ..BidiWriteObjectRequest::default() }
+}
+
+fn finalise_request() -> BidiWriteObjectRequest {
+    let object_checksums = Some(ObjectChecksums { crc32c: Some(0xE306_9283), ..ObjectChecksums::default() });
+    BidiWriteObjectRequest { state_lookup: false, finish_write: true, object_checksums, ..flush_request() }
+}
+
+/// A request into one buffer of its length, so often a round.
+fn wire_row(name: &str, request: &BidiWriteObjectRequest, often: u32) {
+    let written = request.encode_to_vec();
+    let fields = ours::Request::new(request);
+    let mut buffer = vec![0; written.len()];
+    assert_eq!(fields.write(&mut buffer), written.len());
+    assert_eq!(buffer, written);
+    let buffer = RefCell::new(buffer);
+    let (theirs, ours) = side_by_side(
+        || {
+            let buffer = &mut buffer.borrow_mut()[..];
+            for _ in 0..often {
+                black_box(black_box(request).encode(&mut &mut *black_box(&mut *buffer))).unwrap();
+            }
+        },
+        || {
+            let buffer = &mut buffer.borrow_mut()[..];
+            for _ in 0..often {
+                black_box(black_box(&fields).write(black_box(&mut *buffer)));
+            }
+        },
+    );
+    let n = often as f64;
+    println!("| {name} | {:.1} | {:.1} | {:.2} |", theirs / n, ours / n, ours / theirs);
+}
+
 fn memory_row(u: &Upload, data: &Bytes, sizes: &ours::Sizes) {
     let data = data.slice(..u.bytes);
     let peak = memory::peak_of(|| {
@@ -139,6 +183,11 @@ fn main() {
     println!("\n| a join behind | squared matrices, ns | the session, ns | ratio |\n|---|---|---|---|");
     join_row("6,000 bytes", 6000);
     join_row("2 MiB", 2 * MIB);
+    println!("\n| a request's bytes | prost's encode, ns | wire::write, ns | ratio |\n|---|---|---|---|");
+    wire_row("a flush without data", &flush_request(), 100_000);
+    wire_row("finalise, with the object's sum", &finalise_request(), 100_000);
+    wire_row("6,000 bytes of data", &chunk_request(data.slice(..6000)), 20_000);
+    wire_row("2,097,152 bytes of data", &chunk_request(data.slice(..2 * MIB)), 20);
     println!(
         "\n| upload | the crate: allocated at most | allocations | caller's bytes kept at most | the session: lent | ratio |\n|---|---|---|---|---|---|"
     );

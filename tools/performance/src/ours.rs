@@ -1,6 +1,8 @@
-//! The session, as the program `bench`: a whole upload as the records that it reads, in a process of its own. The sum and the join come from a static
-//! library.
+//! The session, as the program `bench`: a whole upload as the records that it reads, in a process of its own. The sum, the join and a request's bytes come
+//! from a static library.
 use crate::Upload;
+use crate::google::storage::v2::{BidiWriteObjectRequest, bidi_write_object_request::Data};
+use bytes::Bytes;
 use std::fs::{self, File};
 use std::path::{Path, PathBuf};
 use std::process::{Command, Stdio};
@@ -8,6 +10,21 @@ use std::process::{Command, Stdio};
 unsafe extern "C" {
     fn michqoya_crc32c(bytes: *const u8, length: usize) -> u32;
     fn michqoya_combine(crc1: u32, crc2: u32, len2: u64) -> u32;
+    fn michqoya_write(
+        write_offset: i64,
+        has_data: bool,
+        length: usize,
+        crc32c: u32,
+        has_checksum: bool,
+        checksum: u32,
+        state_lookup: bool,
+        flush: bool,
+        finish_write: bool,
+        data: *const u8,
+        lent: usize,
+        buffer: *mut u8,
+        room: usize,
+    ) -> usize;
 }
 
 pub fn crc32c(bytes: &[u8]) -> u32 {
@@ -16,6 +33,49 @@ pub fn crc32c(bytes: &[u8]) -> u32 {
 
 pub fn combine(crc1: u32, crc2: u32, len2: usize) -> u32 {
     unsafe { michqoya_combine(crc1, crc2, len2 as u64) }
+}
+
+/// A request's fields, as `wire::write` takes them.
+pub struct Request {
+    write_offset: i64,
+    crc32c: Option<u32>,
+    data: Bytes,
+    checksum: Option<u32>,
+    state_lookup: bool,
+    flush: bool,
+    finish_write: bool,
+}
+
+impl Request {
+    pub fn new(r: &BidiWriteObjectRequest) -> Request {
+        let (crc32c, data) = match &r.data {
+            Some(Data::ChecksummedData(d)) => (d.crc32c, d.content.clone()),
+            None => (None, Bytes::new()),
+        };
+        let checksum = r.object_checksums.as_ref().and_then(|sums| sums.crc32c);
+        Request { write_offset: r.write_offset, crc32c, data, checksum, state_lookup: r.state_lookup, flush: r.flush, finish_write: r.finish_write }
+    }
+
+    /// The number of bytes written, `usize::MAX` where the call refuses.
+    pub fn write(&self, buffer: &mut [u8]) -> usize {
+        unsafe {
+            michqoya_write(
+                self.write_offset,
+                self.crc32c.is_some(),
+                self.data.len(),
+                self.crc32c.unwrap_or(0),
+                self.checksum.is_some(),
+                self.checksum.unwrap_or(0),
+                self.state_lookup,
+                self.flush,
+                self.finish_write,
+                self.data.as_ptr(),
+                self.data.len(),
+                buffer.as_mut_ptr(),
+                buffer.len(),
+            )
+        }
+    }
 }
 
 /// The chunk limit, the capacity and the slots of an opening.
