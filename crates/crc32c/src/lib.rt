@@ -75,15 +75,12 @@ fn byte_step(crc: u32, byte: u8) -> u32
     r
 }
 
-// One step of the register.
+// One step of the register, on one path: the mask is nought minus the low bit, wrapping, and the polynomial is taken under it.
 fn bit_step(crc: u32) -> u32
     ensures { λ r. ⌜ r ≡ step crc ⌝ }
 {
-    if crc % 2 == 1 {
-        (crc >> 1) ^ POLY
-    } else {
-        crc >> 1
-    }
+    let mask = std::num::wrapping_sub_u32(0, crc & 1);
+    (crc >> 1) ^ (POLY & mask)
 }
 
 // What one zero byte does, as an operator: a column for each bit of the register.
