@@ -1,6 +1,7 @@
 //! performance BENCH FOLDER: the same uploads through the crate's own buffers and through the session as the program bench, in one run. Prints the tables
 //! of docs/PERFORMANCE.md. The folder is for the program's input.
 mod google;
+mod journal;
 mod memory;
 mod ours;
 mod theirs;
@@ -13,13 +14,12 @@ use std::cell::RefCell;
 use std::env;
 use std::hint::black_box;
 use std::path::{Path, PathBuf};
+use time::side_by_side;
 
 #[global_allocator]
 static MEMORY: memory::Counting = memory::Counting;
 
 const MIB: usize = 1 << 20;
-const WARM_UP: usize = 3;
-const ROUNDS: usize = 25;
 
 /// An upload: appends of `piece` bytes or of a chunk of either side's own, whichever is less; a flush after each or none; finalise.
 pub struct Upload {
@@ -27,34 +27,6 @@ pub struct Upload {
     bytes: usize,
     piece: usize,
     flush: bool,
-}
-
-/// Nanoseconds of the fastest round of each: a round of one follows a round of the other. What else the machine does only adds to a round.
-fn side_by_side(mut theirs: impl FnMut(), mut ours: impl FnMut()) -> (f64, f64) {
-    for _ in 0..WARM_UP {
-        theirs();
-        ours();
-    }
-    let rounds = (0..ROUNDS).map(|_| (nanoseconds(&mut theirs), nanoseconds(&mut ours)));
-    rounds.fold((f64::MAX, f64::MAX), |least, round| (least.0.min(round.0), least.1.min(round.1)))
-}
-
-fn nanoseconds(f: &mut impl FnMut()) -> f64 {
-    let from = time::spent();
-    f();
-    time::spent() - from
-}
-
-/// A journal whose bytes are no pattern.
-fn journal(n: usize) -> Bytes {
-    let mut x = 88172645463325252u64;
-    let next = || {
-        x ^= x << 13;
-        x ^= x >> 7;
-        x ^= x << 17;
-        x as u8
-    };
-    std::iter::repeat_with(next).take(n).collect::<Vec<u8>>().into()
 }
 
 /// What the program takes for its start and for an upload of nothing is taken off.
@@ -168,7 +140,7 @@ fn memory_row(u: &Upload, data: &Bytes, sizes: &ours::Sizes) {
 fn main() {
     let paths: Vec<PathBuf> = env::args_os().skip(1).map(PathBuf::from).collect();
     let [program, folder] = &paths[..] else { panic!("performance BENCH FOLDER") };
-    let data = journal(64 * MIB);
+    let data = Bytes::from(journal::journal(64 * MIB));
     let day = Upload { name: "a day: 700 × 6,000, a flush each", bytes: 700 * 6000, piece: 6000, flush: true };
     let long = |name, mib| Upload { name, bytes: mib * MIB, piece: usize::MAX, flush: false };
     let growth = [long("1 MiB", 1), long("2 MiB", 2), long("4 MiB", 4), long("8 MiB", 8), long("16 MiB", 16), long("32 MiB", 32), long("64 MiB", 64)];

@@ -17,7 +17,7 @@ unsafe extern "C" {
 }
 
 /// Nanoseconds that this process and those that it started and that have ended took so far.
-pub fn spent() -> f64 {
+fn spent() -> f64 {
     [SELF, CHILDREN].into_iter().map(spent_by).sum()
 }
 
@@ -25,4 +25,23 @@ fn spent_by(who: i32) -> f64 {
     let mut u = Usage::default();
     assert_eq!(unsafe { getrusage(who, &mut u) }, 0);
     [u.user, u.system].into_iter().map(|[s, us]| s as f64 * 1e9 + us as f64 * 1e3).sum()
+}
+
+const WARM_UP: usize = 3;
+const ROUNDS: usize = 25;
+
+/// Nanoseconds of the fastest round of each: a round of one follows a round of the other. What else the machine does only adds to a round.
+pub fn side_by_side(mut one: impl FnMut(), mut other: impl FnMut()) -> (f64, f64) {
+    for _ in 0..WARM_UP {
+        one();
+        other();
+    }
+    let rounds = (0..ROUNDS).map(|_| (nanoseconds(&mut one), nanoseconds(&mut other)));
+    rounds.fold((f64::MAX, f64::MAX), |least, round| (least.0.min(round.0), least.1.min(round.1)))
+}
+
+fn nanoseconds(f: &mut impl FnMut()) -> f64 {
+    let from = spent();
+    f();
+    spent() - from
 }
