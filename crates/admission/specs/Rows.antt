@@ -1,4 +1,5 @@
--- The rows of each call after opening: "Later calls check 7, 12, 6, 13, 4, 11, 8, 9, 10, as far as they apply." The phase is its number in the rules.
+-- The rows of an opening and of each call after it: "Opening checks 1 to 5 in order. Later calls check 7, 12, 6, 13, 4, 11, 8, 9, 10, as far as they apply."
+-- The phase is its number in the rules.
 use mathlib.Core.Bool.{Bool, not, _&&_, _||_}
 use mathlib.Core.List.{[], _∷_}
 use Prim.Native.Nat.{ℕ, _+_, _-_, _^_}
@@ -8,6 +9,19 @@ use Rattle.bidi_write.specs.Numbers.{toℕ}
 use Rattle.bidi_write.specs.Refusal.{Rows, checked}
 use Rattle.bidi_write.specs.declared.Refusal.the-variants as refusal
 use Rattle.bidi_write.specs.declared.Check.{Check}
+
+-- an opening whose limits are good: a 4 for each of object, token, the two handles and payload
+abbrev pub openRows : (short bucket object token handle answer payload finalized : Bool) → Rows
+openRows short bucket object token handle answer payload finalized =
+    (short, refusal.ShortMemory)
+    ∷ (bucket, refusal.BadBucket)
+    ∷ (object, refusal.TooLong)
+    ∷ (token, refusal.TooLong)
+    ∷ (handle, refusal.TooLong)
+    ∷ (answer, refusal.TooLong)
+    ∷ (payload, refusal.TooLong)
+    ∷ (finalized, refusal.Finalized)
+    ∷ []
 
 -- an append, flush or finalise that sends or not, and cuts a chunk or not
 abbrev pub uploadRows : (phase : ℕ) (finalized sends cuts short full room past : Bool) → Rows

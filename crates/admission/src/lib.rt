@@ -1,13 +1,16 @@
-// Whether a call after opening goes on: the rows of its tests, on plain numbers, in the paper's one order: "Later calls check 7, 12, 6, 13, 4, 11, 8, 9, 10,
-// as far as they apply."
+// Whether an opening or a call goes on: the rows of its tests, on plain numbers, in the paper's order: "Opening checks 1 to 5 in order. Later calls check 7, 12, 6,
+// 13, 4, 11, 8, 9, 10, as far as they apply."
 ghost use mathlib.Core.Path.{_≡_};
-ghost use mathlib.Core.Bool.{_||_};
+ghost use mathlib.Core.Bool.{not, _||_};
 ghost use Prim.Native.Nat.{_+_, _-_, _^_};
 ghost use lib.Dec.{ltb, eqb};
+ghost use Rattle.rules.specs.Limits.{maxChunk, maxCapacity};
 ghost use Rattle.bidi_write.specs.Numbers.{toℕ};
 ghost use Rattle.bidi_write.specs.Refusal.{checked};
-ghost use Rattle.admission.specs.Rows.{uploadTests, closeRows, messageRows, breakRows, judgeRows, failRows, nextRows, unsentRows};
+ghost use Rattle.admission.specs.Rows.{openRows, uploadTests, closeRows, messageRows, breakRows, judgeRows, failRows, nextRows, unsentRows};
 use bidi_write::Check;
+use bidi_write::MAX_CAPACITY;
+use bidi_write::MAX_WRITE_CHUNK_SIZE;
 use bidi_write::Offset;
 use bidi_write::Refusal;
 use bidi_write::both;
@@ -31,6 +34,50 @@ pub fn is_streaming(phase: u8) -> bool
     ensures { λ r. ⌜ r ≡ (eqb phase 1 || eqb phase 5) ⌝ }
 {
     either(phase == LIVE, phase == CLOSING)
+}
+
+// A chunk limit, or a capacity asked for, that no opening admits.
+pub fn bad_limits(limit: usize, asked: usize) -> bool
+    ensures { λ r. ⌜ r ≡ (eqb limit 0 || ltb maxChunk limit || ltb maxCapacity asked) ⌝ }
+{
+    if limit == 0 {
+        return true;
+    }
+    if MAX_WRITE_CHUNK_SIZE < limit {
+        return true;
+    }
+    MAX_CAPACITY < asked
+}
+
+// A store shorter than the ring, or a table without a slot.
+pub fn short_memory(ring: usize, store: usize, slots: usize) -> bool
+    ensures { λ r. ⌜ r ≡ (ltb store ring || eqb slots 0) ⌝ }
+{
+    either(store < ring, slots == 0)
+}
+
+// An opening whose limits are good.
+pub fn open(
+    short: bool,
+    named: bool,
+    long_object: bool,
+    long_token: bool,
+    long_handle: bool,
+    long_answer: bool,
+    long_payload: bool,
+    finalized: bool,
+) -> Check
+    ensures { λ r. ⌜ r ≡ checked (openRows short (not named) «long_object» «long_token» «long_handle» «long_answer» «long_payload» finalized) ⌝ }
+{
+    Check::Go
+        .row(short, Refusal::ShortMemory)
+        .row(!named, Refusal::BadBucket)
+        .row(long_object, Refusal::TooLong)
+        .row(long_token, Refusal::TooLong)
+        .row(long_handle, Refusal::TooLong)
+        .row(long_answer, Refusal::TooLong)
+        .row(long_payload, Refusal::TooLong)
+        .row(finalized, Refusal::Finalized)
 }
 
 // "A chunk would end past 2^63 − 1": one of n bytes at the write offset.

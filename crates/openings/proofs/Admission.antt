@@ -23,6 +23,7 @@ use Rattle.bidi_write.specs.declared.Check.{Check}
 use Rattle.bidi_write.specs.declared.Check.the-variants as check
 use Rattle.bidi_write.specs.declared.Refusal.the-variants as refusal
 use Rattle.state.specs.View.{conditionOf, opened}
+use Rattle.admission.specs.Rows.{openRows}
 use Rattle.openings.specs.Opening.{Beside, askedOf, openingOf, Admits}
 use Rattle.openings.specs.declared.Opening.{Opening}
 
@@ -79,15 +80,13 @@ module _ (o : Opening) (b : Beside) (store table : ℕ) where
   -- the rows behind that of the limits
   abbrev rows : Rows
   rows =
-      (ltb store (storeSize (max (asked o) (2 * o .limit + 1)) (o .limit)) || eqb table 0, refusal.ShortMemory) ∷ (not (O.goodBucket (b .bucket)), refusal.BadBucket)
-      ∷ (ltb 1024 (length (b .object)), refusal.TooLong) ∷ (M.over M.maxToken token, refusal.TooLong)
-      ∷ (M.over M.maxHandle (given (o .append && o .«has_write_handle») (b .writeHandle)), refusal.TooLong)
-      ∷ (M.over M.maxHandle (given (o .response .«has_write_handle») (b .responseHandle)), refusal.TooLong)
-      ∷ (M.over (o .limit) (given (o .«has_payload») (b .payload)), refusal.TooLong)
-      ∷ (M.isFinalized (statusOf (o .response .«write_status»)), refusal.Finalized) ∷ []
+      openRows (ltb store (storeSize (max (asked o) (2 * o .limit + 1)) (o .limit)) || eqb table 0) (not (O.goodBucket (b .bucket))) (ltb 1024 (length (b .object)))
+      (M.over M.maxToken token) (M.over M.maxHandle (given (o .append && o .«has_write_handle») (b .writeHandle)))
+      (M.over M.maxHandle (given (o .response .«has_write_handle») (b .responseHandle))) (M.over (o .limit) (given (o .«has_payload») (b .payload)))
+      (M.isFinalized (statusOf (o .response .«write_status»)))
 
-  abbrev openRows : Rows
-  openRows = (limits (o .limit) (asked o), refusal.Limits) ∷ rows
+  abbrev allRows : Rows
+  allRows = (limits (o .limit) (asked o), refusal.Limits) ∷ rows
 
   abbrev session : R.Session
   session = O.openSession (openingOf o b store table)
@@ -104,20 +103,20 @@ module _ (o : Opening) (b : Beside) (store table : ℕ) where
   form-is true = (refl, refl, refl, refl)
   form-is false = (refl, refl, refl, refl)
 
-  opens-is : O.opens (openingOf o b store table) ≡ O.first (numbered openRows) (O.opened session)
+  opens-is : O.opens (openingOf o b store table) ≡ O.first (numbered allRows) (O.opened session)
   unfolding O.opens O.first O.tooLong openingOf
   opens-is = let f = form-is (o .append) in simp (f .0, f .1, f .2, f .3, either-row)
 
-  rule-is : O.opens (openingOf o b store table) ≡ openedOf (checked openRows) (O.opened session)
-  rule-is = opens-is ∙ first-is openRows (O.opened session)
+  rule-is : O.opens (openingOf o b store table) ≡ openedOf (checked allRows) (O.opened session)
+  rule-is = opens-is ∙ first-is allRows (O.opened session)
 
-  admits : (k : Check) → k ≡ checked openRows → Admits o b store table k
+  admits : (k : Check) → k ≡ checked allRows → Admits o b store table k
   admits k e = record {
     refuses = λ x f. rw (sym e ∙ f) at rule-is;
     goes = λ f. rw (sym e ∙ f) at rule-is;
     admitted = λ f.
-        let accepts : O.first (numbered openRows) (O.opened session) ≡ O.opened session = first-is openRows (O.opened session) ∙ rw (sym e ∙ f) in
-        let t = first-passed (numbered openRows) session session accepts .0 in
+        let accepts : O.first (numbered allRows) (O.opened session) ≡ O.opened session = first-is allRows (O.opened session) ∙ rw (sym e ∙ f) in
+        let t = first-passed (numbered allRows) session session accepts .0 in
         let l = within-limits (o .limit) (asked o) (t .0) in
         let short : Bool = ltb store (storeSize (max (asked o) (2 * o .limit + 1)) (o .limit)) in
         let slots : table ≡ 0 → ⊥ = eqb-false table 0 (or-no-right short _ (t .1 .0)) in

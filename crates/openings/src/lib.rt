@@ -3,21 +3,18 @@
 mod starting;
 
 ghost use mathlib.Core.Path.{_≡_};
-ghost use mathlib.Core.Bool.{_||_};
 ghost use mathlib.Core.Option.{Option·getD};
-ghost use Prim.Native.Nat.{_<_, _≤_};
-ghost use lib.Dec.{ltb, eqb};
-ghost use Rattle.rules.specs.Limits.{defaultCapacity, maxChunk, maxCapacity, storeSize};
+ghost use Rattle.rules.specs.Limits.{defaultCapacity};
 ghost use Rattle.openings.specs.Opening.{beside, askedOf, openedAs, Admits, Opens};
 use crate::starting::capacity_for;
 use crate::starting::start;
 use crate::starting::unopened;
+use admission::bad_limits;
+use admission::short_memory;
 use bidi_write::Check;
 use bidi_write::Checksum;
 use bidi_write::DEFAULT_CAPACITY;
 use bidi_write::Generation;
-use bidi_write::MAX_CAPACITY;
-use bidi_write::MAX_WRITE_CHUNK_SIZE;
 use bidi_write::Offset;
 use bidi_write::Refusal;
 use bidi_write::Response;
@@ -156,22 +153,24 @@ fn admit(
         return Check::Refuse(Refusal::Limits);
     }
     let capacity = capacity_for(asked, limit);
-    let short = short_memory(limit, capacity, store, slots);
+    let short = short_memory(ring_size(capacity, limit), store, slots);
     let named = connector::is_bucket(bucket);
+    let long_object = MAX_OBJECT < object.len();
     let long_token = connector::over(has_token, routing_token, MAX_ROUTING_TOKEN);
     let long_handle = connector::over(has_handle, write_handle, MAX_WRITE_HANDLE);
     let long_answer = connector::handle_too_long(response, response_handle);
     let long_payload = connector::over(has_payload, payload, limit);
     let finalized = bidi_write::is_finalized(status);
-    Check::Go
-        .row(short, Refusal::ShortMemory)
-        .row(!named, Refusal::BadBucket)
-        .row(MAX_OBJECT < object.len(), Refusal::TooLong)
-        .row(long_token, Refusal::TooLong)
-        .row(long_handle, Refusal::TooLong)
-        .row(long_answer, Refusal::TooLong)
-        .row(long_payload, Refusal::TooLong)
-        .row(finalized, Refusal::Finalized)
+    admission::open(
+        short,
+        named,
+        long_object,
+        long_token,
+        long_handle,
+        long_answer,
+        long_payload,
+        finalized,
+    )
 }
 
 pub fn asked_capacity(c: Capacity) -> usize
@@ -181,26 +180,4 @@ pub fn asked_capacity(c: Capacity) -> usize
         Capacity::Default => DEFAULT_CAPACITY,
         Capacity::Asked(n) => n,
     }
-}
-
-fn bad_limits(limit: usize, asked: usize) -> bool
-    ensures { λ r. ⌜ r ≡ (eqb limit 0 || ltb maxChunk limit || ltb maxCapacity asked) ⌝ }
-{
-    if limit == 0 {
-        return true;
-    }
-    if MAX_WRITE_CHUNK_SIZE < limit {
-        return true;
-    }
-    MAX_CAPACITY < asked
-}
-
-fn short_memory(limit: usize, capacity: usize, store: usize, slots: usize) -> bool
-    requires { ⌜ (0 < limit) × (limit ≤ maxChunk) × (capacity ≤ maxCapacity) ⌝ }
-    ensures { λ r. ⌜ r ≡ (ltb store (storeSize capacity limit) || eqb slots 0) ⌝ }
-{
-    if store < ring_size(capacity, limit) {
-        return true;
-    }
-    slots == 0
 }

@@ -1,8 +1,7 @@
--- `openings::admit` meets its contract: the limits, then a chain of rows.
+-- `openings::admit` meets its contract: the limits, then the rows.
 use mathlib.Core.Path.{sym, _∙_}
 use native.Mathlib.Omega.{arith}
 use borrow.Author.Needs.{needs}
-use Rattle.bidi_write.proofs.Rows.{chained}
 use Rattle.openings.proofs.Admission.{within-limits, limits-refuse, rows-admit}
 use Rattle.openings.proofs.admit.Statement.{statement}
 use Rattle.openings.proofs.admit.Tie as tie
@@ -24,11 +23,11 @@ capacity-for-requires c κs =
     let asked = c .before .before in
     within-limits (asked .before .before .before .before .before .before .before .before .before .args .o .limit) (asked .asked-capacity .result) (sym (c .before .bad-limits .ensures) ∙ c .if1 .left) .1
 
+ring-size-requires : tie.Need-ring-size-requires
+ring-size-requires c κs = search needs
+
 short-memory-requires : tie.Need-short-memory-requires
-short-memory-requires c κs =
-    let asked = c .before .before .before in
-    let l = within-limits (asked .before .before .before .before .before .before .before .before .before .args .o .limit) (asked .asked-capacity .result) (sym (c .before .before .bad-limits .ensures) ∙ c .before .if1 .left) in
-    (l .0, l .1, omega (arith, c .capacity-for .ensures))
+short-memory-requires c κs = search needs
 
 is-bucket-requires : tie.Need-is-bucket-requires
 is-bucket-requires c κs = search needs
@@ -48,45 +47,19 @@ over-requires-3 c κs = search needs
 is-finalized-requires : tie.Need-is-finalized-requires
 is-finalized-requires c κs = search needs
 
-row-requires : tie.Need-row-requires
-row-requires c κs = search needs
-
-row-requires-2 : tie.Need-row-requires-2
-row-requires-2 c κs = search needs
-
-row-requires-3 : tie.Need-row-requires-3
-row-requires-3 c κs = search needs
-
-row-requires-4 : tie.Need-row-requires-4
-row-requires-4 c κs = search needs
-
-row-requires-5 : tie.Need-row-requires-5
-row-requires-5 c κs = search needs
-
-row-requires-6 : tie.Need-row-requires-6
-row-requires-6 c κs = search needs
-
-row-requires-7 : tie.Need-row-requires-7
-row-requires-7 c κs = search needs
-
-row-requires-8 : tie.Need-row-requires-8
-row-requires-8 c κs = search needs
+open-requires : tie.Need-open-requires
+open-requires c κs = search needs
 
 returns-2 : tie.Need-returns-2
 returns-2 c =
-    let tests = c .before .before .before .before .before .before .before .before in
+    let tests = c .before in
     let memory = tests .before .before .before .before .before .before in
-    let asked = memory .before .before .before .before in
-    rows-admit (sym (rw (asked .asked-capacity .ensures) at (memory .before .before .before .bad-limits .ensures)) ∙ memory .before .before .if1 .left)
-    (c .row8 .ensures
+    let sized = memory .before in
+    let asked = sized .before .before .before .before in
+    let l = within-limits (asked .before .before .before .before .before .before .before .before .before .args .o .limit) (asked .asked-capacity .result) (sym (sized .before .before .before .bad-limits .ensures) ∙ sized .before .before .if1 .left) in
+    rows-admit (sym (rw (asked .asked-capacity .ensures) at (sized .before .before .before .bad-limits .ensures)) ∙ sized .before .before .if1 .left)
+    (c .open .ensures
     ∙ rw (
-      c .before .row7 .ensures,
-      c .before .before .row6 .ensures,
-      c .before .before .before .row5 .ensures,
-      c .before .before .before .before .row4 .ensures,
-      c .before .before .before .before .before .row3 .ensures,
-      c .before .before .before .before .before .before .row2 .ensures,
-      c .before .before .before .before .before .before .before .row .ensures,
       tests .is-finalized .ensures,
       tests .before .over3 .ensures,
       tests .before .before .handle-too-long .ensures,
@@ -94,10 +67,11 @@ returns-2 c =
       tests .before .before .before .before .over .ensures,
       tests .before .before .before .before .before .is-bucket .ensures,
       memory .short-memory .ensures,
-      memory .before .capacity-for .ensures,
+      sized .ring-size .ensures (omega (arith, l .1, sized .before .capacity-for .ensures)) (l .1),
+      sized .before .capacity-for .ensures,
       asked .asked-capacity .ensures,
       asked .before .both .ensures,
-    ) (chained _))
+    ))
 
 pub admit-spec : {M : Type 1} → statement M
 admit-spec =
@@ -108,6 +82,7 @@ admit-spec =
     bad-limits-requires
     returns
     capacity-for-requires
+    ring-size-requires
     short-memory-requires
     is-bucket-requires
     over-requires
@@ -115,12 +90,5 @@ admit-spec =
     handle-too-long-requires
     over-requires-3
     is-finalized-requires
-    row-requires
-    row-requires-2
-    row-requires-3
-    row-requires-4
-    row-requires-5
-    row-requires-6
-    row-requires-7
-    row-requires-8
+    open-requires
     returns-2)

@@ -1,9 +1,9 @@
--- `openings::bad_limits` meets its contract: the tests in turn.
+-- `admission::bad_limits` meets its contract: the tests in turn.
 use native.Mathlib.Omega.{arith}
 use borrow.Author.Tests.{eq-eqb, ne-eqb, lt-ltb, le-ltb}
 use Rattle.rules.specs.Limits.{maxChunk}
-use Rattle.openings.proofs.bad_limits.Statement.{statement}
-use Rattle.openings.proofs.bad_limits.Tie as tie
+use Rattle.admission.proofs.bad_limits.Statement.{statement}
+use Rattle.admission.proofs.bad_limits.Tie as tie
 
 returns : tie.Need-returns
 returns c = rw (eq-eqb _ _ (c .if1 .taken))
