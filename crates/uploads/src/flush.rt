@@ -1,17 +1,14 @@
 // Ported from google-cloud-storage 1.21.0, src/storage/bidi_write/transport.rs and worker.rs, Copyright 2026 Google LLC (Apache-2.0); changed: no tasks, channels or heap.
 // Flush and finalise: "with held bytes cut them as one chunk and make no waiter; the call is repeated. With none held they send their request and make a waiter."
 ghost use mathlib.Core.Path.{_≡_};
-ghost use mathlib.Core.Bool.{false, cond, _||_};
+ghost use mathlib.Core.Bool.{false};
 ghost use Prim.Native.Nat.{_<_, _-_, _^_};
-ghost use lib.Dec.{leb};
 ghost use lib.ListN.{length};
 ghost use Rattle.rules.specs.Limits.{maxWaiters};
 ghost use Rattle.rules.specs.Session as R;
 ghost use Rattle.transport.specs.View.{phaseOf};
 ghost use Rattle.transport.specs.Valid.{GuardedAt};
 ghost use Rattle.transport.specs.Promise.{Promise};
-ghost use Rattle.rules.specs.Upload.{isFinalizing};
-ghost use Rattle.worker.specs.View.{kindOf};
 ghost use Rattle.uploads.specs.Upload.{callOf, Asking, Awaits};
 use crate::cut::Sending;
 use crate::cut::cut;
@@ -22,7 +19,6 @@ use transport::Sent;
 use transport::Session;
 use transport::guard::enter;
 use transport::phases::phase_number;
-use worker::MAX_PENDING;
 use worker::PendingKind;
 use worker::PendingRequest;
 
@@ -70,7 +66,7 @@ fn ask_guarded(
     let phase = phase_number(p);
     let finalized = s.worker.finalized;
     let cuts = held != 0;
-    let no_room = lacks_room(cuts, s.slots, b.chunks, q.count, s.made);
+    let no_room = worker::lacks_room(cuts, s.slots, b.chunks, q.count, s.made);
     let way = admission::upload(
         phase,
         finalized,
@@ -91,19 +87,6 @@ fn ask_guarded(
         },
         Check::Go => send(kind, s, store, table, out, cuts),
     }
-}
-
-// "No free chunk slot" for a chunk; "16 waiters wait, or 2^64 − 1 were made" for a waiter.
-fn lacks_room(cuts: bool, slots: usize, chunks: usize, waiting: usize, made: u64) -> bool
-    ensures { λ r. ⌜ r ≡ cond cuts (leb slots chunks) (leb maxWaiters waiting || leb (2 ^ 64 - 1) made) ⌝ }
-{
-    if cuts {
-        return slots <= chunks;
-    }
-    if MAX_PENDING <= waiting {
-        return true;
-    }
-    0xffff_ffff_ffff_ffff <= made
 }
 
 // The held bytes are cut, or where there are none a waiter is made.
@@ -154,7 +137,7 @@ fn wait(kind: PendingKind, s: Session) -> Sending
     };
     let request = waiter.request();
     let more = q.push(waiter);
-    let worker = w.set_pending(more, finalizes(w.finalized, kind));
+    let worker = w.set_pending(more, worker::finalizes(w.finalized, kind));
     let session = Session {
         limit: s.limit,
         slots: s.slots,
@@ -167,17 +150,4 @@ fn wait(kind: PendingKind, s: Session) -> Sending
         worker,
     };
     Sending { session, request }
-}
-
-// Whether finalise was sent, now or before.
-fn finalizes(finalized: bool, kind: PendingKind) -> bool
-    ensures { λ r. ⌜ r ≡ (finalized || isFinalizing (kindOf kind)) ⌝ }
-{
-    if finalized {
-        return true;
-    }
-    match kind {
-        PendingKind::Flush => false,
-        PendingKind::Finalize => true,
-    }
 }

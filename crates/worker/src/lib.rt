@@ -1,20 +1,20 @@
 // Ported from google-cloud-storage 1.21.0, src/storage/bidi_write/worker.rs, Copyright 2026 Google LLC (Apache-2.0); changed: no tasks, channels or heap.
 ghost use mathlib.Core.Path.{_≡_};
-ghost use mathlib.Core.Bool.{not, _&&_};
+ghost use mathlib.Core.Bool.{not, cond, _&&_, _||_};
 ghost use mathlib.Core.Option.{some};
 ghost use mathlib.Core.List.{List, [], _∷_, _++_};
-ghost use Prim.Native.Nat.{ℕ, _+_, _*_, _-_, _<_, _≤_};
+ghost use Prim.Native.Nat.{ℕ, _+_, _*_, _-_, _<_, _≤_, _^_};
 ghost use lib.Dec.{leb, eqb};
 ghost use lib.ListN.{length, take, drop, getElem?};
 ghost use Rattle.rules.specs.Limits.{maxWaiters};
 ghost use Rattle.rules.specs.Message.{Bytes};
 ghost use Rattle.rules.specs.Session as S;
-ghost use Rattle.rules.specs.Upload.{flushRequest, finishRequest, chunkRequest};
+ghost use Rattle.rules.specs.Upload.{flushRequest, finishRequest, chunkRequest, isFinalizing};
 ghost use Rattle.rules.specs.Respond as R;
 ghost use Rattle.bidi_write.specs.View.{checksumOf, requestOf};
 ghost use Rattle.connector.specs.View.{connectorOf};
 ghost use Rattle.replay_buffer.specs.View.{Lent};
-ghost use Rattle.worker.specs.View.{pendingOf, waitersOf, noWaiters, workerOf};
+ghost use Rattle.worker.specs.View.{kindOf, pendingOf, waitersOf, noWaiters, workerOf};
 use bidi_write::Checksum;
 use bidi_write::ChecksummedData;
 use bidi_write::Data;
@@ -247,6 +247,32 @@ pub fn needs_watermark_flush(
     }
     let watermark = saturating_sub(saturating_sub(capacity, limit), limit);
     watermark <= unpersisted_bytes
+}
+
+// "No free chunk slot" for a chunk; "16 waiters wait, or 2^64 − 1 were made" for a waiter.
+pub fn lacks_room(cuts: bool, slots: usize, chunks: usize, waiting: usize, made: u64) -> bool
+    ensures { λ r. ⌜ r ≡ cond cuts (leb slots chunks) (leb maxWaiters waiting || leb (2 ^ 64 - 1) made) ⌝ }
+{
+    if cuts {
+        return slots <= chunks;
+    }
+    if MAX_PENDING <= waiting {
+        return true;
+    }
+    0xffff_ffff_ffff_ffff <= made
+}
+
+// Whether finalise was sent, now or before.
+pub fn finalizes(finalized: bool, kind: PendingKind) -> bool
+    ensures { λ r. ⌜ r ≡ (finalized || isFinalizing (kindOf kind)) ⌝ }
+{
+    if finalized {
+        return true;
+    }
+    match kind {
+        PendingKind::Flush => false,
+        PendingKind::Finalize => true,
+    }
 }
 
 // Whether finalise was sent and no request waits.

@@ -1,7 +1,7 @@
--- `uploads::flush::lacks_room` meets its contract.
+-- `worker::lacks_room` meets its contract.
 use borrow.Author.Tests.{le-leb, lt-leb}
-use Rattle.uploads.proofs.flush.lacks_room.Statement.{statement}
-use Rattle.uploads.proofs.flush.lacks_room.Tie as tie
+use Rattle.worker.proofs.lacks_room.Statement.{statement}
+use Rattle.worker.proofs.lacks_room.Tie as tie
 
 returns : tie.Need-returns
 returns c = rw (c .if1 .taken)
