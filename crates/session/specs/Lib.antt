@@ -1,3 +1,2 @@
 pub mod Lent
-pub mod Shown
 pub mod Claim

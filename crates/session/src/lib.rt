@@ -1,22 +1,20 @@
 // Ported from google-cloud-storage 1.21.0, src/storage/bidi_write/transport.rs, Copyright 2026 Google LLC (Apache-2.0); changed: no tasks, channels or heap.
 // The host's calls: each is lent the session record, makes the core's call and stores what it left ("the host's outer calls are lent the session
 // record and update it"). A refused call leaves the record as it was, whatever it holds.
-pub mod shown;
-
 ghost use lib.ListN.{length};
 ghost use Rattle.rules.specs.Session as R;
 ghost use Rattle.bidi_write.specs.View.{responseOf, breakOf};
 ghost use Rattle.openings.specs.Opening.{beside, Opens};
 ghost use Rattle.transport.specs.Promise.{Promise, Promised, PromisedAt};
+ghost use Rattle.shown.specs.Shown.{Shown, Dials};
 ghost use Rattle.session.specs.Lent.{outcome};
-ghost use Rattle.session.specs.Shown.{Shown, Dials};
-use crate::shown::View;
-use crate::shown::spec_of;
-use crate::shown::view_of;
 use bidi_write::Break;
 use bidi_write::Response;
 use openings::Opened;
 use openings::Opening;
+use shown::View;
+use shown::spec_of;
+use shown::view_of;
 use state::AppendObjectSpec;
 use transport::Answer;
 use transport::Session;

@@ -5,7 +5,7 @@ use bidi_write::Checksum;
 use bidi_write::Generation;
 use bidi_write::Offset;
 use replay_buffer::ReplayBuffer;
-use session::shown::View;
+use shown::View;
 use state::AppendObjectSpec;
 use state::Bucket;
 use state::Condition;

@@ -15,8 +15,8 @@ use denote.Struct.Laws as LL
 use Rattle.transport.specs.declared.Session.{Session}
 use Rattle.transport.proofs.Session as T
 use Rattle.transport.proofs.Session.Laws as T′
-use Rattle.session.proofs.shown.View as N
-use Rattle.session.proofs.shown.View.Laws as N′
+use Rattle.shown.proofs.View as N
+use Rattle.shown.proofs.View.Laws as N′
 use Rattle.session.proofs.view as outer
 use Rattle.session.proofs.view.Symbol as outer-def
 use Rattle.session.proofs.view.Symbol.{name as #session·view}

@@ -14,12 +14,12 @@ use denote.Struct.Laws as LL
 use Rattle.transport.specs.declared.Session.{Session}
 use Rattle.transport.proofs.Session as T
 use Rattle.transport.proofs.Session.Laws as T′
-use Rattle.session.proofs.shown.View as N
-use Rattle.session.proofs.shown.View.Laws as N′
-use Rattle.session.proofs.shown.view_of as core
-use Rattle.session.proofs.shown.view_of.Symbol as core-def
-use Rattle.session.proofs.shown.view_of.Symbol.{name as #session·shown·view-of}
-use Rattle.session.proofs.shown.view_of.Met as core-thm
+use Rattle.shown.proofs.View as N
+use Rattle.shown.proofs.View.Laws as N′
+use Rattle.shown.proofs.view_of as core
+use Rattle.shown.proofs.view_of.Symbol as core-def
+use Rattle.shown.proofs.view_of.Symbol.{name as #shown·view-of}
+use Rattle.shown.proofs.view_of.Met as core-thm
 use Rattle.session.proofs.view.Key.{name as #session·view}
 use Rattle.session.proofs.view as view
 use Rattle.session.proofs.view.Statement as stated
@@ -43,7 +43,7 @@ module _ {M : Type 1} (𝓤 : URA M) (H : Heap 𝓤) (A : Atoms 𝓤) (W : Given
   to-core = ((κs .1, qs .1, tt, (h, a .1), (LL.vals T.the-type T′.the-laws h, vss .1)), tt)
 
   module _ (are : Are (typesAt (view.signature .params) κs) (Ises (typesAt (view.signature .params) κs)) a vss)
-      (C : Calls 𝓤 H) (Λ : Loops 𝓤 H) (fm : FmC 𝓤 H (W .laws) C) (known : Triple 𝓤 (C #session·shown·view-of) (Core 𝓤 H A mem run)) where
+      (C : Calls 𝓤 H) (Λ : Loops 𝓤 H) (fm : FmC 𝓤 H (W .laws) C) (known : Triple 𝓤 (C #shown·view-of) (Core 𝓤 H A mem run)) where
     walk : ent 𝓤 (onEntry 𝓤 H A view.signature κs qs a vss) (WpFn 𝓤 H C Λ code.function (flat (typesAt (view.signature .params) κs) vss) (Post 𝓤 H A W view.ended (view.clauses 𝓤 H A mem run) ((κs, qs, tt, a, vss), tt)))
     walk = qed W ((‵ (flft (κs .0) (qs .0)) ⊛ raw (toks 𝓤 A 0 (κs .1) (qs .1))) ∷ ‵ (owns (typesAt (view.signature .params) κs) a vss) ∷ []) ∵ split ! $ move ! (2 ∷ []) $ fsplit ! $ fsplit3 ! $ drop ! $ move ! (1 ∷ 3 ∷ 2 ∷ 4 ∷ []) $
         enter ! C Λ code.function (flat (typesAt (view.signature .params) κs) vss) _ $ alloc1 ! (λ l₀. alloc1 ! (λ l₁. alloc1 ! (λ l₂. alloc0 ! $ params1 ! $
@@ -69,4 +69,4 @@ view-spec 𝓤 H 𝓜 𝓖 𝓡 =
     (meets 𝓤 H (𝓖 .A) (givenOf 𝓤 H 𝓜 𝓖) view.ended (view.clauses 𝓤 H (𝓖 .A) (𝓜 .mem) (𝓡 .run)) code.function (tablesOf 𝓤 H 𝓜 (tables 𝓤 H 𝓜 𝓡 code.env)) sp (λ κs. (shr-tells (named 0) (κs .0) T.the-row, tt))
     (λ κs qs bounds a g are. via 𝓤 _ (fst∗ 𝓤 _ (emp 𝓤)) (
     walk 𝓤 H (𝓖 .A) (givenOf 𝓤 H 𝓜 𝓖) (𝓜 .mem) (𝓡 .run) κs qs a are (tables 𝓤 H 𝓜 𝓡 code.env .C) (tables 𝓤 H 𝓜 𝓡 code.env .Λ) (fmOf 𝓤 H (givenOf 𝓤 H 𝓜 𝓖 .laws) (tablesOf 𝓤 H 𝓜 (tables 𝓤 H 𝓜 𝓡 code.env)))
-    (cited 𝓤 H (Core 𝓤 H (𝓖 .A) (𝓜 .mem) (𝓡 .run)) 𝓜 𝓡 code.env #session·shown·view-of core-def.routine code.calls-session·shown·view-of (core-thm.met 𝓤 H 𝓜 𝓖 𝓡)))))
+    (cited 𝓤 H (Core 𝓤 H (𝓖 .A) (𝓜 .mem) (𝓡 .run)) 𝓜 𝓡 code.env #shown·view-of core-def.routine code.calls-shown·view-of (core-thm.met 𝓤 H 𝓜 𝓖 𝓡)))))

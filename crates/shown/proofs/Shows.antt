@@ -12,7 +12,7 @@ use Rattle.transport.specs.View.{lentOf, view}
 use Rattle.transport.specs.Valid.{Valid}
 use Rattle.transport.specs.declared.Session.{Session}
 use Rattle.transport.proofs.Numbers.{stored-is, waiters-are}
-use Rattle.session.specs.Shown.{Shows, viewed, Shown, Dials}
+use Rattle.shown.specs.Shown.{Shows, viewed, Shown, Dials}
 
 shows-rules : (s : Session) (store : Bytes) (table : List ℕ) → Valid s store table → Shows (view s store table) (viewed s)
 unfolding view workerOf

@@ -10,7 +10,7 @@ use Rattle.state.specs.declared.AppendObjectSpec.{AppendObjectSpec}
 use Rattle.transport.specs.View.{phaseOf, view}
 use Rattle.transport.specs.Valid.{Valid}
 use Rattle.transport.specs.declared.Session.{Session}
-use Rattle.session.specs.declared.shown.View.{View}
+use Rattle.shown.specs.declared.View.{View}
 
 pub record Shows (s : R.Session) (v : View) : Type 0 where
   pub phase : phaseOf (v .phase) ≡ s .phase

@@ -1,6 +1,6 @@
 // Ported from google-cloud-storage 1.21.0, src/storage/bidi_write/transport.rs, Copyright 2026 Google LLC (Apache-2.0); changed: no tasks, channels or heap.
 // What a host may see of its session, by value.
-ghost use Rattle.session.specs.Shown.{Shown, Dials};
+ghost use Rattle.shown.specs.Shown.{Shown, Dials};
 use bidi_write::Offset;
 use state::AppendObjectSpec;
 use transport::Phase;
