@@ -13,7 +13,7 @@ use lib.Seq.{length-take-le, take-append-le, drop-append-le, take-suc, drop-drop
 use Rattle.rules.specs.Session.{bytesOf}
 use Rattle.rules.specs.Respond.{pushedEnd}
 use Rattle.rules.specs.Basics.{All}
-use Rattle.replay_buffer.specs.Word.{lenOf, sumOf}
+use Rattle.chunk_words.specs.Word.{lenOf, sumOf}
 use Rattle.replay_buffer.specs.View.{chunksOf, total}
 
 pub length-chunks : (o : ℕ) (ws bs : List ℕ) → length (chunksOf o ws bs) ≡ length ws

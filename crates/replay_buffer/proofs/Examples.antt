@@ -8,7 +8,7 @@ use Rattle.rules.specs.Message.{Bytes}
 use Rattle.rules.specs.Respond.{ack}
 use Rattle.crc32c.specs.Reg.{crcOf}
 use Rattle.ring.specs.Ring.{part, rot}
-use Rattle.replay_buffer.specs.Word.{packed}
+use Rattle.chunk_words.specs.Word.{packed}
 use Rattle.replay_buffer.specs.View.{lent, queueOf}
 use Rattle.replay_buffer.specs.declared.ReplayBuffer.{ReplayBuffer}
 

@@ -1,5 +1,4 @@
 -- The laws, for this crate's proofs and for those of its callers (`Laws`).
-pub mod Words
 pub mod Chunks
 pub mod Prefix
 pub mod Laws

@@ -17,9 +17,9 @@ use lib.Seq.{length-take-le, drop-cons, drop-drop}
 use Rattle.crc32c.specs.Reg.{crcOf}
 use Rattle.rules.specs.Respond.{ack}
 use Rattle.bidi_write.specs.Numbers.{toℕ}
-use Rattle.replay_buffer.specs.Word.{packed, lenOf}
+use Rattle.chunk_words.specs.Word.{packed, lenOf}
 use Rattle.ring.proofs.Paste.{drop-take-add}
-use Rattle.replay_buffer.proofs.Words.{len-packed, sum-packed}
+use Rattle.chunk_words.proofs.Words.{len-packed, sum-packed}
 use Rattle.replay_buffer.specs.View.{chunksOf, total}
 use Rattle.replay_buffer.specs.Ack.{nothing, after, frontOf, Above}
 use Rattle.replay_buffer.specs.declared.Front.{Front}

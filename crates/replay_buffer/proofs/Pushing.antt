@@ -6,10 +6,10 @@ use Prim.Native.Nat.{ℕ, _+_, _-_, _<_, _≤_, _^_}
 use native.Mathlib.Omega.{arith}
 use lib.ListN.{length}
 use Rattle.ring.specs.Ring.{part, Within, Written}
-use Rattle.replay_buffer.specs.Word.{packed, lenOf}
+use Rattle.chunk_words.specs.Word.{packed, lenOf}
 use Rattle.ring.proofs.Laws.{take-part, part-add, length-part}
 use Rattle.ring.proofs.Put as Put
-use Rattle.replay_buffer.proofs.Words as Words
+use Rattle.chunk_words.proofs.Words as Words
 use Rattle.replay_buffer.specs.View.{lent, total, wordsOf, queueOf}
 use Rattle.replay_buffer.specs.Push.{Room, Pushes, pushed}
 use Rattle.replay_buffer.specs.declared.ReplayBuffer.{ReplayBuffer}

@@ -12,7 +12,7 @@ use lib.ListN.{length, take, drop, getD}
 use lib.Seq.{take-at}
 use Rattle.rules.specs.Message.{Bytes}
 use Rattle.ring.specs.Ring.{ring, part}
-use Rattle.replay_buffer.specs.Word.{lenOf, sumOf}
+use Rattle.chunk_words.specs.Word.{lenOf, sumOf}
 use Rattle.ring.proofs.Laws.{take-part, drop-part, length-part}
 use Rattle.replay_buffer.specs.View.{Lent, total, wordsOf, storedOf, queueOf, Fits, Sound}
 use Rattle.replay_buffer.specs.Replay.{noChunk, readAt, Replays}

@@ -7,7 +7,7 @@ use native.Mathlib.Omega.{arith}
 use lib.ListN.{length, drop}
 use Rattle.rules.specs.Message.{Bytes}
 use Rattle.ring.specs.Ring.{wrapped, part}
-use Rattle.replay_buffer.specs.Word.{lenOf}
+use Rattle.chunk_words.specs.Word.{lenOf}
 use Rattle.ring.proofs.Rot.{wrapped-lt}
 use Rattle.ring.proofs.Laws.{drop-part, part-moved}
 use Rattle.replay_buffer.specs.View.{Lent, chunksOf, total, wordsOf, storedOf, queueOf, Fits, Sound}

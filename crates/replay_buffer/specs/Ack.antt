@@ -9,7 +9,7 @@ use lib.ListN.{length, drop}
 use Rattle.rules.specs.Message.{Bytes}
 use Rattle.rules.specs.Respond as R
 use Rattle.ring.specs.Ring.{wrapped, part}
-use Rattle.replay_buffer.specs.Word.{lenOf}
+use Rattle.chunk_words.specs.Word.{lenOf}
 use Rattle.replay_buffer.specs.View.{Lent, wordsOf, queueOf, Fits, Sound}
 use Rattle.replay_buffer.specs.declared.ReplayBuffer.{ReplayBuffer}
 use Rattle.replay_buffer.specs.declared.Front.{Front}

@@ -1,5 +1,4 @@
 -- What the contracts of the replay buffer cite.
-pub mod Word
 pub mod View
 pub mod Push
 pub mod Ack

@@ -10,7 +10,7 @@ use lib.ListN.{length, take, drop, getD, getElem?}
 use Rattle.rules.specs.Message.{Bytes}
 use Rattle.rules.specs.Session.{ReplayChunk}
 use Rattle.ring.specs.Ring.{ring, part}
-use Rattle.replay_buffer.specs.Word.{lenOf, sumOf}
+use Rattle.chunk_words.specs.Word.{lenOf, sumOf}
 use Rattle.replay_buffer.specs.View.{Lent, total, wordsOf, queueOf, Sound}
 use Rattle.replay_buffer.specs.declared.ReplayBuffer.{ReplayBuffer}
 use Rattle.replay_buffer.specs.declared.Chunk.{Chunk}

@@ -8,7 +8,7 @@ use Rattle.rules.specs.Message.{Bytes}
 use Rattle.rules.specs.Session.{ReplayChunk}
 use Rattle.rules.specs.Basics.{All}
 use Rattle.ring.specs.Ring.{part}
-use Rattle.replay_buffer.specs.Word.{lenOf, sumOf}
+use Rattle.chunk_words.specs.Word.{lenOf, sumOf}
 use Rattle.replay_buffer.specs.declared.ReplayBuffer.{ReplayBuffer}
 
 -- how the memory is lent: the ring's bytes at the front of the store, the slots at the front of the table

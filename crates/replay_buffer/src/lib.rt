@@ -10,7 +10,7 @@ ghost use lib.Signed.{ltZ, leZ};
 ghost use Rattle.ring.specs.Ring.{part, Within};
 ghost use Rattle.bidi_write.specs.Numbers.{toℕ};
 ghost use Rattle.rules.specs.Limits.{maxChunk, maxCapacity, storeSize};
-ghost use Rattle.replay_buffer.specs.Word.{packed, lenOf, sumOf};
+ghost use Rattle.chunk_words.specs.Word.{lenOf};
 ghost use Rattle.replay_buffer.specs.View.{lent, Fits};
 ghost use Rattle.replay_buffer.specs.Push.{Room, Pushes};
 ghost use Rattle.replay_buffer.specs.Ack.{Acks, Stored, Trims, frontOf, advanced};
@@ -19,6 +19,9 @@ use bidi_write::Difference;
 use bidi_write::MAX_CAPACITY;
 use bidi_write::MAX_WRITE_CHUNK_SIZE;
 use bidi_write::Offset;
+use chunk_words::len_of;
+use chunk_words::pack;
+use chunk_words::sum_of;
 
 // Chunks lie end to end and end at the write offset, so their offsets are not kept.
 pub struct ReplayBuffer {
@@ -60,29 +63,6 @@ pub fn ring_size(capacity: usize, limit: usize) -> usize
     }
     sum - 2
 }
-
-// ---- the words of the table
-
-// A table word: a chunk's length in the low 32 bits, its CRC32C in the high 32 bits.
-pub fn pack(len: u32, sum: u32) -> u64
-    ensures { λ r. ⌜ r ≡ packed len sum ⌝ }
-{
-    (sum as u64) * 0x1_0000_0000 + (len as u64)
-}
-
-pub fn len_of(w: u64) -> u32
-    ensures { λ r. ⌜ r ≡ lenOf w ⌝ }
-{
-    (w % 0x1_0000_0000) as u32
-}
-
-pub fn sum_of(w: u64) -> u32
-    ensures { λ r. ⌜ r ≡ sumOf w ⌝ }
-{
-    (w / 0x1_0000_0000) as u32
-}
-
-// ---- the buffer
 
 // Enqueues a chunk, whose bytes stand behind the stored ones already.
 pub fn push(

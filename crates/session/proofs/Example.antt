@@ -33,7 +33,7 @@ use Rattle.state.specs.View.{specOf}
 use Rattle.state.specs.declared.AppendObjectSpec.{AppendObjectSpec}
 use Rattle.state.specs.declared.Condition.the-variants as condition
 use Rattle.connector.specs.View.{connectorOf}
-use Rattle.replay_buffer.specs.Word.{packed}
+use Rattle.chunk_words.specs.Word.{packed}
 use Rattle.replay_buffer.specs.View.{lent, queueOf, Sound}
 use Rattle.replay_buffer.specs.declared.ReplayBuffer.{ReplayBuffer}
 use Rattle.worker.specs.View.{waitersOf, noWaiters, workerOf}

@@ -219,21 +219,14 @@ fn chunk(
     let at = wrapping_sub_u64(bidi_write::to_nat(end), b.unpersisted_bytes as u64);
     let n = trace_text::number(out, n, at);
     let n = text(out, n, b":");
-    let n = ring_bytes(
-        out,
-        n,
-        store,
-        size,
-        b.head,
-        replay_buffer::len_of(w) as usize,
-    );
+    let n = ring_bytes(out, n, store, size, b.head, chunk_words::len_of(w) as usize);
     let n = text(out, n, b":");
-    let n = trace_text::sum(out, n, replay_buffer::sum_of(w));
+    let n = trace_text::sum(out, n, chunk_words::sum_of(w));
     text(out, n, b" ")
 }
 
 fn rest(b: ReplayBuffer, size: usize, slots: usize, w: u64) -> ReplayBuffer {
-    let length = replay_buffer::len_of(w) as usize;
+    let length = chunk_words::len_of(w) as usize;
     ReplayBuffer {
         capacity: b.capacity,
         head: on(b.head, length, size),

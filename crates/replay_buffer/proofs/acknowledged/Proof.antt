@@ -14,7 +14,7 @@ use mir.Val.{SFits}
 use Rattle.ring.specs.Ring.{part}
 use Rattle.ring.proofs.Laws.{length-part}
 use Rattle.bidi_write.proofs.Offsets.{bytes-fit, end-fits}
-use Rattle.replay_buffer.specs.Word.{lenOf}
+use Rattle.chunk_words.specs.Word.{lenOf}
 use Rattle.replay_buffer.specs.Ack.{after, frontOf}
 use Rattle.replay_buffer.proofs.Laws.{word-in}
 use Rattle.replay_buffer.proofs.Prefix.{after-none, loop-more, loop-stop, loop-end}

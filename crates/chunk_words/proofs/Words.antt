@@ -3,7 +3,7 @@
 use mathlib.Core.Path.{_≡_, refl}
 use Prim.Native.Nat.{ℕ, _<_, _^_}
 use lib.Pow.{high, low}
-use Rattle.replay_buffer.specs.Word.{packed, lenOf, sumOf}
+use Rattle.chunk_words.specs.Word.{packed, lenOf, sumOf}
 
 pub len-packed : (len sum : ℕ) → len < 2 ^ 32 → lenOf (packed len sum) ≡ len
 len-packed len sum h = low sum 32 h
