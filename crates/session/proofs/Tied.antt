@@ -21,11 +21,11 @@ use Rattle.transport.specs.declared.Session.{Session}
 use Rattle.transport.specs.declared.Outcome.{Outcome}
 use Rattle.session.specs.Lent.{outcome}
 use Rattle.session.specs.Claim.{Ensured, Unlent, Ensures, OpenEnsured, Begins}
-use Rattle.uploads.proofs.append.append as core-append
+use Rattle.appends.proofs.append as core-append
 use Rattle.session.proofs.append as append
-use Rattle.uploads.proofs.flush.flush as core-flush
+use Rattle.flushes.proofs.flush as core-flush
 use Rattle.session.proofs.flush as flush
-use Rattle.uploads.proofs.flush.finalise as core-finalise
+use Rattle.flushes.proofs.finalise as core-finalise
 use Rattle.session.proofs.finalise as finalise
 use Rattle.transport.proofs.close.close as core-close
 use Rattle.session.proofs.close as close

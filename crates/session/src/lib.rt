@@ -55,7 +55,7 @@ pub fn append(
 ) -> Answer
     ensures { λ r. ⌜ Promise (R.append (now («data» .entry)) (length (now (out .entry)))) (now (s .entry)) (now (store .entry)) (now (table .entry)) (now (out .entry)) (outcome (now (s .exit)) r) (now (store .exit)) (now (table .exit)) (now (out .exit)) ⌝ }
 {
-    let r = uploads::append::append(*s, store, table, out, data);
+    let r = appends::append(*s, store, table, out, data);
     *s = r.session;
     r.answer
 }
@@ -63,7 +63,7 @@ pub fn append(
 pub fn flush(s: &mut Session, store: &[u8], table: &mut [u64], out: &mut [u8]) -> Answer
     ensures { λ r. ⌜ Promise (R.flush (length (now (out .entry)))) (now (s .entry)) (now (store .entry)) (now (table .entry)) (now (out .entry)) (outcome (now (s .exit)) r) (now (store .entry)) (now (table .exit)) (now (out .exit)) ⌝ }
 {
-    let r = uploads::flush::flush(*s, store, table, out);
+    let r = flushes::flush(*s, store, table, out);
     *s = r.session;
     r.answer
 }
@@ -71,7 +71,7 @@ pub fn flush(s: &mut Session, store: &[u8], table: &mut [u64], out: &mut [u8]) -
 pub fn finalise(s: &mut Session, store: &[u8], table: &mut [u64], out: &mut [u8]) -> Answer
     ensures { λ r. ⌜ Promise (R.finalise (length (now (out .entry)))) (now (s .entry)) (now (store .entry)) (now (table .entry)) (now (out .entry)) (outcome (now (s .exit)) r) (now (store .entry)) (now (table .exit)) (now (out .exit)) ⌝ }
 {
-    let r = uploads::flush::finalise(*s, store, table, out);
+    let r = flushes::finalise(*s, store, table, out);
     *s = r.session;
     r.answer
 }

@@ -1,4 +1,4 @@
--- `session::append` meets its contract: a walk of its MIR, by hand. The record is copied out of the borrow and passed to `uploads::append::append`; the record that comes back is stored, and the borrow is closed.
+-- `session::append` meets its contract: a walk of its MIR, by hand. The record is copied out of the borrow and passed to `appends::append`; the record that comes back is stored, and the borrow is closed.
 -- What the other parameters own, their tokens, and what the callee says of their last values each go through in one piece (`Lent.antt`).
 -- Assumes nothing.
 use Rattle.session.proofs.Lent.{refl, [], _∷_, URA, named, SProp, ent, emp, via, fst∗, id⊢, Memory, Routine, Heap, Calls, Loops, WpFn, Atoms, Fun, Lfts, Shares, givenOf, tables, tablesOf, Given, raw, _$_, !, move, keep, drop, use3, fsplit, look, look-raw, init, store-raw, stop, hop, fld, from, load, addr, of-opd, and-then, no-more, assigns, land, returns, enter, alloc1, alloc0, params1, pass1, pass0, free0, agg, whole, sub, look-in, FmC, fmOf, Ises, Are, Spells, valss, ptr-vals, mut-tells, flat, typesAt, closes, Args, Vals, onEntry, Contract, Triple, calls-at, tripleOf, entered, cited, Post, meets, others, starts, none-asked, lent, comes, apart, gone, leaves, ends, slice-vals, mut-slice-tells, mut-slice-lawful, shr-slice-tells, shr-slice-lawful, u8, u64}
@@ -11,10 +11,10 @@ use Rattle.transport.proofs.Session.Laws as T′
 use Rattle.transport.proofs.Outcome as N
 use Rattle.transport.proofs.Outcome.Laws as N′
 use Rattle.transport.proofs.Answer.Laws as A′
-use Rattle.uploads.proofs.append.append as core
-use Rattle.uploads.proofs.append.append.Symbol as core-def
-use Rattle.uploads.proofs.append.append.Symbol.{name as #uploads·append·append}
-use Rattle.uploads.proofs.append.append.Met as core-thm
+use Rattle.appends.proofs.append as core
+use Rattle.appends.proofs.append.Symbol as core-def
+use Rattle.appends.proofs.append.Symbol.{name as #appends·append}
+use Rattle.appends.proofs.append.Met as core-thm
 use Rattle.session.proofs.append.Key.{name as #session·append}
 use Rattle.session.proofs.append as append
 use Rattle.session.proofs.append.Statement as stated
@@ -42,7 +42,7 @@ module _ {M : Type 1} (𝓤 : URA M) (H : Heap 𝓤) (A : Atoms 𝓤) (W : Given
   to-core = ((κs .1, qs .1, tt, (h, a .1), (LL.vals T.the-type T′.the-laws h, vss .1)), tt)
 
   module _ (are : Are (typesAt (append.signature .params) κs) (Ises (typesAt (append.signature .params) κs)) a vss)
-      (C : Calls 𝓤 H) (Λ : Loops 𝓤 H) (fm : FmC 𝓤 H (W .laws) C) (known : Triple 𝓤 (C #uploads·append·append) (Core 𝓤 H A mem run)) where
+      (C : Calls 𝓤 H) (Λ : Loops 𝓤 H) (fm : FmC 𝓤 H (W .laws) C) (known : Triple 𝓤 (C #appends·append) (Core 𝓤 H A mem run)) where
     walk : ent 𝓤 (onEntry 𝓤 H A append.signature κs qs a vss) (WpFn 𝓤 H C Λ code.function (flat (typesAt (append.signature .params) κs) vss) (Post 𝓤 H A W append.ended (append.clauses 𝓤 H A mem run) ((κs, qs, tt, a, vss), tt)))
     walk = starts 𝓤 H A W T.the-row 4 (others (append.signature .params)) κs qs (a .0) (a .1) (vss .1) (
         enter ! C Λ code.function (flat (typesAt (append.signature .params) κs) vss) _ $
@@ -76,4 +76,4 @@ append-spec 𝓤 H 𝓜 𝓖 𝓡 =
     (meets 𝓤 H (𝓖 .A) (givenOf 𝓤 H 𝓜 𝓖) append.ended (append.clauses 𝓤 H (𝓖 .A) (𝓜 .mem) (𝓡 .run)) code.function (tablesOf 𝓤 H 𝓜 (tables 𝓤 H 𝓜 𝓡 code.env)) sp (λ κs. (mut-tells (named 0) (κs .0) T.the-row, (mut-slice-tells (named 1) (κs .1 .0) u8, (mut-slice-tells (named 2) (κs .1 .1 .0) u64, (mut-slice-tells (named 3) (κs .1 .1 .1 .0) u8, (shr-slice-tells (named 4) (κs .1 .1 .1 .1 .0) u8, tt))))))
     (λ κs qs bounds a g are. via 𝓤 _ (fst∗ 𝓤 _ (emp 𝓤)) (
     walk 𝓤 H (𝓖 .A) (givenOf 𝓤 H 𝓜 𝓖) (𝓜 .mem) (𝓡 .run) κs qs a are (tables 𝓤 H 𝓜 𝓡 code.env .C) (tables 𝓤 H 𝓜 𝓡 code.env .Λ) (fmOf 𝓤 H (givenOf 𝓤 H 𝓜 𝓖 .laws) (tablesOf 𝓤 H 𝓜 (tables 𝓤 H 𝓜 𝓡 code.env)))
-    (cited 𝓤 H (Core 𝓤 H (𝓖 .A) (𝓜 .mem) (𝓡 .run)) 𝓜 𝓡 code.env #uploads·append·append core-def.routine code.calls-uploads·append·append (core-thm.met 𝓤 H 𝓜 𝓖 𝓡)))))
+    (cited 𝓤 H (Core 𝓤 H (𝓖 .A) (𝓜 .mem) (𝓡 .run)) 𝓜 𝓡 code.env #appends·append core-def.routine code.calls-appends·append (core-thm.met 𝓤 H 𝓜 𝓖 𝓡)))))

@@ -1,4 +1,0 @@
-pub mod Uploads
-pub mod Cutting
-pub mod Appending
-pub mod Asking
