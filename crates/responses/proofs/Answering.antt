@@ -30,13 +30,13 @@ use Rattle.transport.specs.declared.Phase.the-variants as phase
 use Rattle.bidi_write.specs.declared.Refusal.{Refusal}
 use Rattle.transport.specs.declared.Sent.the-variants as sent
 use Rattle.transport.specs.declared.Session.{Session}
-use Rattle.responses.specs.declared.Way.the-variants as way
+use Rattle.sizes.specs.declared.Way.the-variants as way
 use Rattle.worker.proofs.Lengths.{no-length}
 use Rattle.rules.proofs.Tests.{and-left, and-right}
 use Rattle.transport.proofs.Numbers.{watermark-is}
 use Rattle.transport.proofs.Views.{no-cursor, live-no-replay}
 use Rattle.transport.proofs.Bare.{bare-is}
-use Rattle.responses.proofs.Taking.{chosen, passed-over}
+use Rattle.sizes.proofs.Taking.{chosen, passed-over}
 use Rattle.transport.proofs.Views.{valid-phase}
 
 -- ---- whether a bare flush is sent

@@ -15,7 +15,8 @@ use Rattle.transport.specs.View.{phaseOf, view, answerOf}
 use Rattle.transport.specs.Valid.{GuardedAt, Valid}
 use Rattle.transport.specs.Promise.{askedBy, PromisedAt}
 use Rattle.bidi_write.specs.Refusal.{checked}
-use Rattle.responses.specs.Respond.{Admits, receives, isOpen, Prepares, Takes, Answers}
+use Rattle.sizes.specs.Size.{Takes}
+use Rattle.responses.specs.Respond.{Admits, receives, isOpen, Prepares, Answers}
 use Rattle.transport.specs.declared.Answer.{Answer}
 use Rattle.transport.specs.declared.Answer.the-variants as answer
 use Rattle.bidi_write.specs.declared.Check.{Check}
@@ -25,7 +26,7 @@ use Rattle.transport.specs.declared.Phase.{Phase}
 use Rattle.bidi_write.specs.declared.Refusal.{Refusal}
 use Rattle.bidi_write.specs.declared.Refusal.the-variants as refusal
 use Rattle.transport.specs.declared.Session.{Session}
-use Rattle.responses.specs.declared.Taken.{Taken}
+use Rattle.sizes.specs.declared.Taken.{Taken}
 use Rattle.responses.proofs.Admitting.{passes}
 use Rattle.bidi_write.proofs.Rows.{same-refusal, refused, passed}
 use Rattle.rules.proofs.Tests.{clash}

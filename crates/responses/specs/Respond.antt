@@ -1,16 +1,11 @@
 -- What the parts of a response or handshake promise.
 use mathlib.Core.Path.{_≡_}
 use mathlib.Core.Bool.{Bool, true, false, not, _&&_, _||_}
-use mathlib.Core.Option.{Option}
 use mathlib.Core.List.{List}
 use Prim.Native.Nat.{ℕ}
-use lib.IntN.{ℤ}
-use lib.ListN.{drop}
 use Rattle.rules.specs.Message.{Bytes}
 use Rattle.rules.specs.Message as M
 use Rattle.rules.specs.Session as R
-use Rattle.rules.specs.Respond as Rule
-use Rattle.bidi_write.specs.View.{causeOf}
 use Rattle.connector.specs.declared.Connector.{Connector}
 use Rattle.admission.specs.Rows.{messageRows}
 use Rattle.transport.specs.View.{phaseOf, view, answerOf}
@@ -23,10 +18,8 @@ use Rattle.bidi_write.specs.declared.Check.the-variants as check
 use Rattle.transport.specs.declared.Outcome.{Outcome}
 use Rattle.bidi_write.specs.declared.Refusal.the-variants as refusal
 use Rattle.transport.specs.declared.Session.{Session}
-use Rattle.responses.specs.declared.Absorbed.{Absorbed}
-use Rattle.responses.specs.declared.Taken.{Taken}
-use Rattle.responses.specs.declared.Way.{Way}
-use Rattle.responses.specs.declared.Way.the-variants as way
+use Rattle.sizes.specs.Size.{onward}
+use Rattle.sizes.specs.declared.Way.{Way}
 
 -- the refusals 7, 6 and 4 of a message that comes in the right phases alone
 abbrev pub receives : (R.Phase → Bool) → R.Phase → M.Response → Rows
@@ -62,34 +55,6 @@ pub record Prepares (f : R.Connector → R.Connector) (s r : Session) : Type 0 w
       ≡ R.setWorker (R.setConnector (f (view s store table .worker .connector)) (R.setMark false (view s store table .worker))) (view s store table)
   -- a replay's cursor would not stay
   pub stays : (store : Bytes) (table : List ℕ) → R.isReplay (phaseOf (s .phase)) ≡ false → Valid s store table → Valid r store table
-
--- the size n is absorbed
-pub record Absorbs (n : ℤ) (finalised : Bool) (s : Session) (store : Bytes) (table : List ℕ) (r : Absorbed) (table′ : List ℕ) : Type 0 where
-  pub phase-is : r .session .phase ≡ s .phase
-  pub beyond : drop (s .slots) table′ ≡ drop (s .slots) table
-  pub completed-is : r .completed ≡ Rule.satisfied n finalised (R.waiters (view s store table))
-  pub view-is : Valid s store table
-      → view (r .session) store table′ ≡ R.setWorker (Rule.absorbs n finalised (view s store table .worker)) (view s store table)
-  pub stays : R.isReplay (phaseOf (s .phase)) ≡ false → Valid s store table → Valid (r .session) store table′
-
--- how a session goes on by the rules
-abbrev pub onward : Way → (ℕ → R.Session → R.Result) → R.Session → R.Result
-onward (way.On k) last v = last k v
-onward (way.Ends c k) last v = R.ending (causeOf c) k v
-
--- after a size that was absorbed
-pub record Goes (s : Session) (finalised : Bool) (completed : ℕ) (r : Way) : Type 0 where
-  pub goes : (store : Bytes) (table : List ℕ) (last : ℕ → R.Session → R.Result) → Valid s store table
-      → R.choose (finalised && not (R.complete (view s store table))) (R.ending R.alreadyFinalized completed (view s store table)) (last completed (view s store table))
-      ≡ onward r last (view s store table)
-
--- after a status with the size n, or none
-pub record Takes (n : Option ℤ) (finalised : Bool) (s : Session) (store : Bytes) (table : List ℕ) (r : Taken) (table′ : List ℕ) : Type 0 where
-  pub phase-is : r .session .phase ≡ s .phase
-  pub beyond : drop (s .slots) table′ ≡ drop (s .slots) table
-  pub takes : (last : ℕ → R.Session → R.Result) → R.isReplay (phaseOf (s .phase)) ≡ false → Valid s store table
-      → Rule.takes n finalised (view s store table) last ≡ onward (r .way) last (view (r .session) store table′)
-  pub stays : R.isReplay (phaseOf (s .phase)) ≡ false → Valid s store table → Valid (r .session) store table′
 
 -- whether a bare flush is sent
 pub record Flushes (s : Session) (r : Bool) : Type 0 where

@@ -2,29 +2,24 @@
 // Responses and handshakes.
 ghost use mathlib.Core.Path.{_≡_};
 ghost use mathlib.Core.Bool.{false};
-ghost use mathlib.Core.Option.{some};
-ghost use lib.ListN.{length};
 ghost use Rattle.bidi_write.specs.View.{statusOf, responseOf};
 ghost use Rattle.rules.specs.Message as M;
 ghost use Rattle.rules.specs.Respond.{updated, progress, lastStep, toReplay};
 ghost use Rattle.rules.specs.Session as R;
 ghost use Rattle.admission.specs.Rows.{messageRows};
 ghost use Rattle.transport.specs.Promise.{PromisedAt};
-ghost use Rattle.responses.specs.Respond.{Admits, receives, isOpen, withConnector, Prepares, Absorbs, Takes, Goes, Flushes, Answers};
-ghost use Rattle.transport.specs.Valid.{GuardedAt};
+ghost use Rattle.responses.specs.Respond.{Admits, receives, isOpen, withConnector, Prepares, Flushes, Answers};
 ghost use Rattle.transport.specs.View.{phaseOf};
-ghost use Rattle.responses.specs.declared.Way.the-variants as ways;
+ghost use Rattle.sizes.specs.declared.Way.the-variants as ways;
 use admission::CONNECTING;
 use admission::ENDED;
 use admission::LIVE;
 use admission::is_streaming;
-use bidi_write::Cause;
 use bidi_write::Check;
-use bidi_write::Offset;
 use bidi_write::Response;
-use bidi_write::Size;
-use bidi_write::WriteStatus;
 use connector::Connector;
+use sizes::Way;
+use sizes::handle_response_success;
 use transport::Answer;
 use transport::Completed;
 use transport::Cursor;
@@ -38,24 +33,6 @@ use transport::parts::end;
 use transport::parts::renew;
 use transport::parts::set_phase;
 use transport::phases::phase_number;
-
-// How a session goes on from a response: with so many waiters completed, or to its end.
-enum Way {
-    On(usize),
-    Ends(Cause, usize),
-}
-
-// A session that took over what a response states.
-struct Taken {
-    session: Session,
-    way: Way,
-}
-
-// A session that absorbed a stated size, and how many waiters it completed.
-struct Absorbed {
-    session: Session,
-    completed: usize,
-}
 
 // ---- the calls
 
@@ -169,82 +146,6 @@ fn prepare_handshake(s: Session, m: Response, handle: &[u8]) -> Session
     let size = bidi_write::persisted_size(status);
     let noted = c.handle_response(m, handle);
     with_connector(s, noted.progress(size))
-}
-
-// ---- the size
-
-// What a status states is taken over: no size, and only the last step is left.
-fn handle_response_success(
-    s: Session,
-    store: &[u8],
-    table: &mut [u64],
-    status: WriteStatus,
-) -> Taken
-    requires { ⌜ GuardedAt s (length (now store)) (length (now table)) ⌝ }
-    ensures { λ r. ⌜ Takes (M.sizeOf (statusOf status)) (M.isFinalized (statusOf status)) s (now (store .entry)) (now (table .entry)) r (now (table .exit)) ⌝ }
-{
-    let finalized = bidi_write::is_finalized(status);
-    let size = bidi_write::persisted_size(status);
-    match size {
-        Size::Absent => Taken {
-            session: s,
-            way: Way::On(0),
-        },
-        Size::Stated(n) => take_size(s, store, table, n, finalized),
-    }
-}
-
-// "Size below P, end regressed"; else it is absorbed.
-fn take_size(s: Session, store: &[u8], table: &mut [u64], n: Offset, finalized: bool) -> Taken
-    requires { ⌜ GuardedAt s (length (now store)) (length (now table)) ⌝ }
-    ensures { λ r. ⌜ Takes (some (n .0)) finalized s (now (store .entry)) (now (table .entry)) r (now (table .exit)) ⌝ }
-{
-    let w = s.worker;
-    let persisted = w.persisted_size;
-    if bidi_write::below(n, persisted) {
-        return Taken {
-            session: s,
-            way: Way::Ends(Cause::Regressed, 0),
-        };
-    }
-    let a = absorb_size(s, store, table, n, finalized);
-    let t = a.session;
-    let way = way_on(t, finalized, a.completed);
-    Taken { session: t, way }
-}
-
-// "A finalised response then ends the session, unless finalise was sent and no waiter is left."
-fn way_on(s: Session, finalized: bool, completed: usize) -> Way
-    ensures { λ r. ⌜ Goes s finalized completed r ⌝ }
-{
-    let w = s.worker;
-    let q = w.pending_requests;
-    let complete = worker::is_complete(w.finalized, q.count);
-    if finalized {
-        if !complete {
-            return Way::Ends(Cause::AlreadyFinalized, completed);
-        }
-    }
-    Way::On(completed)
-}
-
-// P is the size n: "chunks ending at or below it go, the front one is trimmed"; "waiters are completed from the front while satisfied".
-fn absorb_size(s: Session, store: &[u8], table: &mut [u64], n: Offset, finalized: bool) -> Absorbed
-    requires { ⌜ GuardedAt s (length (now store)) (length (now table)) ⌝ }
-    ensures { λ r. ⌜ Absorbs (n .0) finalized s (now (store .entry)) (now (table .entry)) r (now (table .exit)) ⌝ }
-{
-    let w = s.worker;
-    let b = w.replay_buffer;
-    let q = w.pending_requests;
-    let at = s.write_offset;
-    let completed = q.satisfied(n, finalized);
-    let left = q.complete(completed);
-    let size = replay_buffer::ring_size(b.capacity, s.limit);
-    let rest = replay_buffer::ack(b, store, size, table, s.slots, at, n);
-    let p = s.phase;
-    let sent = s.sent;
-    let session = renew(s, w.absorb(rest, left, n), p, sent);
-    Absorbed { session, completed }
 }
 
 // ---- the last step

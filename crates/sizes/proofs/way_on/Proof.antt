@@ -1,8 +1,8 @@
--- `responses::way_on` meets its contract.
-use Rattle.responses.proofs.Taking.{goes-to-end, goes-on}
+-- `sizes::way_on` meets its contract.
+use Rattle.sizes.proofs.Taking.{goes-to-end, goes-on}
 use borrow.Author.Needs.{needs}
-use Rattle.responses.proofs.way_on.Statement.{statement}
-use Rattle.responses.proofs.way_on.Tie as tie
+use Rattle.sizes.proofs.way_on.Statement.{statement}
+use Rattle.sizes.proofs.way_on.Tie as tie
 
 is-complete-requires : tie.Need-is-complete-requires
 is-complete-requires c κs = search needs

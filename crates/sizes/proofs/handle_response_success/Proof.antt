@@ -1,13 +1,13 @@
--- `responses::handle_response_success` meets its contract: a law of `Taking` at each return.
+-- `sizes::handle_response_success` meets its contract: a law of `Taking` at each return.
 use mathlib.Core.Path.{_≡_, sym, ap, _∙_}
 use mathlib.Core.Option.{none}
 use Rattle.rules.specs.Message as M
 use Rattle.bidi_write.specs.View.{statusOf, sizeOf}
-use Rattle.responses.proofs.Taking.{takes-none}
+use Rattle.sizes.proofs.Taking.{takes-none}
 use Rattle.bidi_write.specs.declared.Size.the-variants as size
 use borrow.Author.Needs.{needs}
-use Rattle.responses.proofs.handle_response_success.Statement.{statement}
-use Rattle.responses.proofs.handle_response_success.Tie as tie
+use Rattle.sizes.proofs.handle_response_success.Statement.{statement}
+use Rattle.sizes.proofs.handle_response_success.Tie as tie
 
 is-finalized-requires : tie.Need-is-finalized-requires
 is-finalized-requires c κs = search needs

@@ -20,7 +20,7 @@ use Rattle.worker.specs.declared.Worker.{Worker}
 use Rattle.transport.specs.View.{phaseOf, ringSize, lentOf, endOf, heldOf, view}
 use Rattle.transport.specs.Valid.{GuardedAt, Valid}
 use Rattle.transport.specs.Parts.{setWorker}
-use Rattle.responses.specs.Respond.{Absorbs}
+use Rattle.sizes.specs.Size.{Absorbs}
 use Rattle.transport.specs.declared.Session.{Session}
 use Rattle.transport.proofs.Views.{no-cursor}
 

@@ -15,11 +15,11 @@ use Rattle.bidi_write.specs.declared.Cause.the-variants as cause
 use Rattle.worker.specs.View.{workerOf}
 use Rattle.transport.specs.View.{view}
 use Rattle.transport.specs.Valid.{Valid}
-use Rattle.responses.specs.Respond.{Absorbs, Goes, Takes}
+use Rattle.sizes.specs.Size.{Absorbs, Goes, Takes}
 use Rattle.transport.specs.declared.Session.{Session}
-use Rattle.responses.specs.declared.Absorbed.{Absorbed}
-use Rattle.responses.specs.declared.Way.{Way}
-use Rattle.responses.specs.declared.Way.the-variants as way
+use Rattle.sizes.specs.declared.Absorbed.{Absorbed}
+use Rattle.sizes.specs.declared.Way.{Way}
+use Rattle.sizes.specs.declared.Way.the-variants as way
 use Rattle.transport.proofs.Numbers.{complete-is}
 
 pub chosen : {b : Bool} (x y : R.Result) → b ≡ true → R.choose b x y ≡ x

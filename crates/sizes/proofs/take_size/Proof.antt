@@ -1,9 +1,9 @@
--- `responses::take_size` meets its contract: a law of `Taking` at each return.
+-- `sizes::take_size` meets its contract: a law of `Taking` at each return.
 use mathlib.Core.Path.{sym, _∙_}
-use Rattle.responses.proofs.Taking.{takes-regressed, takes-absorbed}
+use Rattle.sizes.proofs.Taking.{takes-regressed, takes-absorbed}
 use borrow.Author.Needs.{needs}
-use Rattle.responses.proofs.take_size.Statement.{statement}
-use Rattle.responses.proofs.take_size.Tie as tie
+use Rattle.sizes.proofs.take_size.Statement.{statement}
+use Rattle.sizes.proofs.take_size.Tie as tie
 
 below-requires : tie.Need-below-requires
 below-requires c κs = search needs

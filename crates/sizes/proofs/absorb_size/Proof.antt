@@ -1,8 +1,8 @@
--- `responses::absorb_size` meets its contract: a law of `Absorbing`.
-use Rattle.responses.proofs.Absorbing.{absorbs-size}
+-- `sizes::absorb_size` meets its contract: a law of `Absorbing`.
+use Rattle.sizes.proofs.Absorbing.{absorbs-size}
 use borrow.Author.Needs.{needs}
-use Rattle.responses.proofs.absorb_size.Statement.{statement}
-use Rattle.responses.proofs.absorb_size.Tie as tie
+use Rattle.sizes.proofs.absorb_size.Statement.{statement}
+use Rattle.sizes.proofs.absorb_size.Tie as tie
 
 satisfied-requires : tie.Need-satisfied-requires
 satisfied-requires c κs = search needs
