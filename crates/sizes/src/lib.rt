@@ -26,9 +26,9 @@ pub struct Taken {
 }
 
 // A session that absorbed a stated size, and how many waiters it completed.
-pub struct Absorbed {
-    pub session: Session,
-    pub completed: usize,
+struct Absorbed {
+    session: Session,
+    completed: usize,
 }
 
 // What a status states is taken over: no size, and only the last step is left.
