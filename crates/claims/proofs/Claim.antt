@@ -22,7 +22,7 @@ use Rattle.transport.proofs.Claim.{bound-of}
 use Rattle.openings.proofs.Openings.{accepted-is}
 use Rattle.wire.specs.Sendable.{AlwaysSendable}
 use Rattle.wire.proofs.Sendable.{handed-out-reads}
-use Rattle.session.specs.Claim.{Ensures, Begins, Always, AlwaysCalled, StoredBound}
+use Rattle.claims.specs.Claim.{Ensures, Begins, Always, AlwaysCalled, StoredBound}
 
 -- a promise at memory that is the same
 module _ (c : R.Call) (m : Memory) (r : Outcome) where

@@ -53,10 +53,10 @@ use Rattle.openings.specs.Opening.{Beside, beside, openingOf, openedAs}
 use Rattle.openings.specs.declared.Capacity.the-variants as capacity
 use Rattle.openings.specs.declared.Opening.{Opening}
 use Rattle.openings.specs.declared.OpenAnswer.the-variants as open-answer
 use Rattle.session.specs.Lent.{outcome}
-use Rattle.session.specs.Claim.{Ensures, Begins}
-use Rattle.session.proofs.Claim.{host-demand3}
-use Rattle.session.proofs.Tied.{ensures-all, opens-all}
+use Rattle.claims.specs.Claim.{Ensures, Begins}
+use Rattle.claims.proofs.Claim.{host-demand3}
+use Rattle.claims.proofs.Tied.{ensures-all, opens-all}
 
 -- ---- the opening
 

@@ -19,32 +19,32 @@ use Rattle.transport.specs.View.{answerOf}
 use Rattle.transport.specs.Claim.{Memory, Promises, Does}
 use Rattle.transport.specs.declared.Session.{Session}
 use Rattle.transport.specs.declared.Outcome.{Outcome}
 use Rattle.session.specs.Lent.{outcome}
-use Rattle.session.specs.Claim.{Ensured, Unlent, Ensures, OpenEnsured, Begins}
+use Rattle.claims.specs.Claim.{Ensured, Unlent, Ensures, OpenEnsured, Begins}
 use Rattle.appends.proofs.append as core-append
 use Rattle.session.proofs.append as append
 use Rattle.flushes.proofs.flush as core-flush
 use Rattle.session.proofs.flush as flush
 use Rattle.flushes.proofs.finalise as core-finalise
 use Rattle.session.proofs.finalise as finalise
 use Rattle.transport.proofs.close.close as core-close
 use Rattle.session.proofs.close as close
 use Rattle.responses.proofs.response as core-response
 use Rattle.session.proofs.response as response
 use Rattle.responses.proofs.handshake as core-handshake
 use Rattle.session.proofs.handshake as handshake
 use Rattle.reconnects.proofs.«stream_break» as core-stream-break
 use Rattle.session.proofs.«stream_break» as stream-break
 use Rattle.reconnects.proofs.judge as core-judge
 use Rattle.session.proofs.judge as judge
 use Rattle.reconnects.proofs.«failed_attempt» as core-failed-attempt
 use Rattle.session.proofs.«failed_attempt» as failed-attempt
 use Rattle.replays.proofs.«next_request» as core-next-request
 use Rattle.session.proofs.«next_request» as next-request
 use Rattle.replays.proofs.«send_failed» as core-send-failed
 use Rattle.session.proofs.«send_failed» as send-failed
 use Rattle.openings.proofs.open as core-open
 use Rattle.session.proofs.open as open-host
 
 abbrev memory : Session → Bytes → List ℕ → Memory
 memory s store table = record { session = s; store = store; table = table }

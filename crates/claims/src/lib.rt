@@ -1,0 +1,1 @@
+// What is claimed of any list of the host's calls: definitions and proofs only.
