@@ -5,10 +5,15 @@ use mathlib.Core.List.{[], _∷_}
 use Prim.Native.Nat.{ℕ, _+_, _-_, _^_}
 use lib.Dec.{leb, ltb, eqb}
 use lib.IntN.{ℤ}
+use Rattle.rules.specs.Limits.{maxChunk, maxCapacity}
 use Rattle.bidi_write.specs.Numbers.{toℕ}
 use Rattle.bidi_write.specs.Refusal.{Rows, checked}
 use Rattle.bidi_write.specs.declared.Refusal.the-variants as refusal
 use Rattle.bidi_write.specs.declared.Check.{Check}
+
+-- "C is 0 or above 2,097,152, or capacity above 1,073,741,824"
+abbrev pub badLimits : (limit asked : ℕ) → Bool
+badLimits limit asked = eqb limit 0 || ltb maxChunk limit || ltb maxCapacity asked
 
 -- an opening whose limits are good: a 4 for each of object, token, the two handles and payload
 abbrev pub openRows : (short bucket object token handle answer payload finalized : Bool) → Rows

@@ -4,10 +4,9 @@ ghost use mathlib.Core.Path.{_≡_};
 ghost use mathlib.Core.Bool.{not, _||_};
 ghost use Prim.Native.Nat.{_+_, _-_, _^_};
 ghost use lib.Dec.{ltb, eqb};
-ghost use Rattle.rules.specs.Limits.{maxChunk, maxCapacity};
 ghost use Rattle.bidi_write.specs.Numbers.{toℕ};
 ghost use Rattle.bidi_write.specs.Refusal.{checked};
-ghost use Rattle.admission.specs.Rows.{openRows, uploadTests, closeRows, messageRows, breakRows, judgeRows, failRows, nextRows, unsentRows};
+ghost use Rattle.admission.specs.Rows.{badLimits, openRows, uploadTests, closeRows, messageRows, breakRows, judgeRows, failRows, nextRows, unsentRows};
 use bidi_write::Check;
 use bidi_write::MAX_CAPACITY;
 use bidi_write::MAX_WRITE_CHUNK_SIZE;
@@ -38,7 +37,7 @@ pub fn is_streaming(phase: u8) -> bool
 
 // A chunk limit, or a capacity asked for, that no opening admits.
 pub fn bad_limits(limit: usize, asked: usize) -> bool
-    ensures { λ r. ⌜ r ≡ (eqb limit 0 || ltb maxChunk limit || ltb maxCapacity asked) ⌝ }
+    ensures { λ r. ⌜ r ≡ badLimits limit asked ⌝ }
 {
     if limit == 0 {
         return true;

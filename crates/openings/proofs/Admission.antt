@@ -23,7 +23,7 @@ use Rattle.bidi_write.specs.declared.Check.{Check}
 use Rattle.bidi_write.specs.declared.Check.the-variants as check
 use Rattle.bidi_write.specs.declared.Refusal.the-variants as refusal
 use Rattle.state.specs.View.{conditionOf, opened}
-use Rattle.admission.specs.Rows.{openRows}
+use Rattle.admission.specs.Rows.{badLimits, openRows}
 use Rattle.openings.specs.Opening.{Beside, askedOf, openingOf, Admits}
 use Rattle.openings.specs.declared.Opening.{Opening}
 
@@ -38,10 +38,7 @@ pub not-over : (n : ℕ) (present : Bool) (b : Bytes) → M.over n (given presen
 not-over n true b h = ltb-false n (length b) h
 not-over n false b h = omega arith
 
-abbrev pub limits : (limit asked : ℕ) → Bool
-limits limit asked = eqb limit 0 || ltb maxChunk limit || ltb maxCapacity asked
-
-pub within-limits : (limit asked : ℕ) → limits limit asked ≡ false → (0 < limit) × (limit ≤ maxChunk) × (asked ≤ maxCapacity)
+pub within-limits : (limit asked : ℕ) → badLimits limit asked ≡ false → (0 < limit) × (limit ≤ maxChunk) × (asked ≤ maxCapacity)
 within-limits limit asked h =
     let e : (eqb limit 0 || ltb maxChunk limit) ≡ false = or-no-left _ _ h in
     let some : limit ≡ 0 → ⊥ = eqb-false limit 0 (or-no-left _ _ e) in
@@ -86,7 +83,7 @@ module _ (o : Opening) (b : Beside) (store table : ℕ) where
       (M.isFinalized (statusOf (o .response .«write_status»)))
 
   abbrev allRows : Rows
-  allRows = (limits (o .limit) (asked o), refusal.Limits) ∷ rows
+  allRows = (badLimits (o .limit) (asked o), refusal.Limits) ∷ rows
 
   abbrev session : R.Session
   session = O.openSession (openingOf o b store table)
@@ -135,11 +132,11 @@ module _ (o : Opening) (b : Beside) (store table : ℕ) where
         };
   }
 
-pub limits-refuse : {o : Opening} {b : Beside} {store table : ℕ} → limits (o .limit) (asked o) ≡ true → Admits o b store table (check.Refuse refusal.Limits)
+pub limits-refuse : {o : Opening} {b : Beside} {store table : ℕ} → badLimits (o .limit) (asked o) ≡ true → Admits o b store table (check.Refuse refusal.Limits)
 unfolding checked
 limits-refuse {o} {b} {store} {table} h = admits o b store table (check.Refuse refusal.Limits) (rw h)
 
-pub rows-admit : {o : Opening} {b : Beside} {store table : ℕ} {k : Check} → limits (o .limit) (asked o) ≡ false → k ≡ checked (rows o b store table)
+pub rows-admit : {o : Opening} {b : Beside} {store table : ℕ} {k : Check} → badLimits (o .limit) (asked o) ≡ false → k ≡ checked (rows o b store table)
     → Admits o b store table k
 unfolding checked
 rows-admit {o} {b} {store} {table} {k} h e = admits o b store table k (rw h e)

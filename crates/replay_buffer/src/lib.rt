@@ -10,7 +10,6 @@ ghost use lib.Signed.{ltZ, leZ};
 ghost use Rattle.ring.specs.Ring.{part, Within};
 ghost use Rattle.bidi_write.specs.Numbers.{toℕ};
 ghost use Rattle.rules.specs.Limits.{maxChunk, maxCapacity, storeSize};
-ghost use Rattle.chunk_words.specs.Word.{lenOf};
 ghost use Rattle.replay_buffer.specs.View.{lent, Fits};
 ghost use Rattle.replay_buffer.specs.Push.{Room, Pushes};
 ghost use Rattle.replay_buffer.specs.Ack.{Acks, Stored, Trims, frontOf, advanced};
