@@ -4,13 +4,12 @@ use mathlib.Core.Path.{_≡_, refl, ap, _∙_}
 use mathlib.Core.Bool.{Bool, true, false}
 use mathlib.Core.List.{[], _∷_, _++_, append-nil, append-assoc}
 use Prim.Native.Nat.{ℕ, zero, suc, _+_, _*_, _/_, _%_, _^_, _≤_, _<_}
-use native.Mathlib.Nat.{add-zero}
 use native.Mathlib.Numerals.{add-one, add-two, add-three}
 use native.Mathlib.Omega.{arith}
 use lib.ListN.{length, set, length-append}
 use lib.Seq.{sets}
 use Rattle.little_endian.specs.Little.{digits}
-use Rattle.protobuf_format.proofs.Varint.{varintOf-few, varintOf-many, length-few}
+use Rattle.protobuf_format.proofs.Varint.{varintOf-few, varintOf-many}
 use Rattle.protobuf_format.specs.Reading.{Bytes}
 use Rattle.protobuf_format.specs.Varint.{varintOf}
 use Rattle.protobuf_format.specs.Field.{bytes, fixed32, field, valueBytes, fieldBytes, write}
@@ -29,15 +28,15 @@ pub int-nothing : (k n : ℕ) (buffer : Bytes) (at : ℕ) → n ≡ 0 → Writte
 unfolding write
 int-nothing k n buffer at e = rw e (written-nothing buffer at)
 
-int-bytes : (k n : ℕ) → 0 < n → write (plainInt k n) ≡ varintOf (k * 8) ++ varintOf n
+int-bytes : (k n : ℕ) → 0 < n → write (plainInt k n) ≡ varintOf (k * 8 + 0) ++ varintOf n
 unfolding write fieldBytes valueBytes
 int-bytes k zero h = absurd (omega arith)
-int-bytes k (suc n) h = rw (append-nil, add-zero)
+int-bytes k (suc n) h = rw append-nil
 
-pub int-length : (k n : ℕ) → 0 < n → length (write (plainInt k n)) ≡ length (varintOf (k * 8)) + length (varintOf n)
-int-length k n h = ap length (int-bytes k n h) ∙ length-append (varintOf (k * 8)) (varintOf n)
+pub int-length : (k n : ℕ) → 0 < n → length (write (plainInt k n)) ≡ length (varintOf (k * 8 + 0)) + length (varintOf n)
+int-length k n h = ap length (int-bytes k n h) ∙ length-append (varintOf (k * 8 + 0)) (varintOf n)
 
-pub int-written : (k n : ℕ) {x y z : Bytes} {at i j : ℕ} → 0 < n → Written (varintOf (k * 8)) x y at i → Written (varintOf n) y z i j
+pub int-written : (k n : ℕ) {x y z : Bytes} {at i j : ℕ} → 0 < n → Written (varintOf (k * 8 + 0)) x y at i → Written (varintOf n) y z i j
     → Written (write (plainInt k n)) x z at j
 int-written k n h p q = rw (int-bytes k n h) (written-both p q)
 
@@ -86,10 +85,10 @@ pub bool-nothing : (k : ℕ) (b : Bool) (buffer : Bytes) (at : ℕ) → b ≡ fa
 unfolding write
 bool-nothing k b buffer at e = rw e (written-nothing buffer at)
 
-pub bool-length : (k : ℕ) (b : Bool) → b ≡ true → length (write (plainBool k b)) ≡ length (varintOf (k * 8)) + 1
-bool-length k b e = rw e (omega (arith, int-length k 1 (omega arith), length-few 1 (omega arith)))
+pub bool-length : (k : ℕ) (b : Bool) → b ≡ true → length (write (plainBool k b)) ≡ length (varintOf (k * 8 + 0)) + length (varintOf 1)
+bool-length k b e = rw e (int-length k 1 (omega arith))
 
-pub bool-written : (k : ℕ) (b : Bool) {x y z : Bytes} {at i j : ℕ} → b ≡ true → Written (varintOf (k * 8)) x y at i → Written (varintOf 1) y z i j
+pub bool-written : (k : ℕ) (b : Bool) {x y z : Bytes} {at i j : ℕ} → b ≡ true → Written (varintOf (k * 8 + 0)) x y at i → Written (varintOf 1) y z i j
     → Written (write (plainBool k b)) x z at j
 bool-written k b e p q = rw e (int-written k 1 (omega arith) p q)
 

@@ -8,20 +8,17 @@ use borrow.Author.Needs.{needs}
 use Rattle.protobuf.proofs.put_bool.Statement.{statement}
 use Rattle.protobuf.proofs.put_bool.Tie as tie
 
-mul-put-small : tie.Need-mul-put-small
-mul-put-small c = search needs
-
-put-small-requires : tie.Need-put-small-requires
-put-small-requires c κs =
+put-key-requires : tie.Need-put-key-requires
+put-key-requires c κs =
     let start = c .before .before .before in
     omega (arith, bool-length (start .args .number) (start .args .b) (c .before .if1 .taken))
 
-put-small-requires-2 : tie.Need-put-small-requires-2
-put-small-requires-2 c κs =
+put-varint-requires : tie.Need-put-varint-requires
+put-varint-requires c κs =
     let first = c .before .before .before in
     let start = first .before .before .before .before in
     let room = bool-length (start .args .number) (start .args .b) (first .before .before .if1 .taken) in
-    omega (arith, room, first .put-small .ensures .place, written-length (first .put-small .ensures))
+    omega (arith, room, first .put-key .ensures .place, written-length (first .put-key .ensures))
 
 same-length : tie.Need-same-length
 same-length c = search needs
@@ -31,7 +28,7 @@ returns c =
     let second = c .before .before in
     let first = second .before .before .before .before in
     let start = first .before .before .before .before in
-    bool-written (start .args .number) (start .args .b) (first .before .before .if1 .taken) (first .put-small .ensures) (second .put-small2 .ensures)
+    bool-written (start .args .number) (start .args .b) (first .before .before .if1 .taken) (first .put-key .ensures) (second .put-varint .ensures)
 
 returns-2 : tie.Need-returns-2
 returns-2 c =
@@ -41,4 +38,4 @@ returns-2 c =
 pub put-bool-spec : {M : Type 1} → statement M
 put-bool-spec =
     tie.close
-    (tie.spec mul-put-small put-small-requires put-small-requires-2 same-length returns returns-2)
+    (tie.spec put-key-requires put-varint-requires same-length returns returns-2)

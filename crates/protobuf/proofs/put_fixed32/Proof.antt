@@ -7,14 +7,8 @@ use borrow.Author.Needs.{needs}
 use Rattle.protobuf.proofs.put_fixed32.Statement.{statement}
 use Rattle.protobuf.proofs.put_fixed32.Tie as tie
 
-mul-put-small : tie.Need-mul-put-small
-mul-put-small c = search needs
-
-add-put-small : tie.Need-add-put-small
-add-put-small c = search needs
-
-put-small-requires : tie.Need-put-small-requires
-put-small-requires c κs =
+put-key-requires : tie.Need-put-key-requires
+put-key-requires c κs =
     let start = c .before .before in
     omega (arith, fixed32-length (start .args .number) (start .args .v))
 
@@ -22,7 +16,7 @@ put-four-requires : tie.Need-put-four-requires
 put-four-requires c κs =
     let first = c .before .before .before in
     let start = first .before .before .before in
-    omega (arith, fixed32-length (start .args .number) (start .args .v), first .put-small .ensures .place, written-length (first .put-small .ensures))
+    omega (arith, fixed32-length (start .args .number) (start .args .v), first .put-key .ensures .place, written-length (first .put-key .ensures))
 
 same-length : tie.Need-same-length
 same-length c = search needs
@@ -32,9 +26,9 @@ returns c =
     let second = c .before .before in
     let first = second .before .before .before .before in
     let start = first .before .before .before in
-    fixed32-written (start .args .number) (start .args .v) (first .put-small .ensures) (second .put-four .ensures)
+    fixed32-written (start .args .number) (start .args .v) (first .put-key .ensures) (second .put-four .ensures)
 
 pub put-fixed32-spec : {M : Type 1} → statement M
 put-fixed32-spec =
     tie.close
-    (tie.spec mul-put-small add-put-small put-small-requires put-four-requires same-length returns)
+    (tie.spec put-key-requires put-four-requires same-length returns)

@@ -2,7 +2,6 @@
 -- Assumes nothing.
 use native.Mathlib.Omega.{arith}
 use denote.Ref.{now}
-use Rattle.protobuf_format.proofs.Varint.{groupsOf-pos}
 use Rattle.copying.proofs.Written.{written-length}
 use Rattle.protobuf.proofs.Writing.{int-nothing, int-length, int-written}
 use borrow.Author.Needs.{needs}
@@ -14,20 +13,17 @@ returns c =
     let start = c .before .before in
     int-nothing (start .args .number) (start .args .n) (now (start .args .buffer)) (start .args .at) (c .if1 .taken)
 
-mul-put-small : tie.Need-mul-put-small
-mul-put-small c = search needs
-
-put-small-requires : tie.Need-put-small-requires
-put-small-requires c κs =
+put-key-requires : tie.Need-put-key-requires
+put-key-requires c κs =
     let start = c .before .before .before in
-    omega (arith, int-length (start .args .number) (start .args .n) (omega (arith, c .before .if1 .left)), groupsOf-pos 9 (start .args .n))
+    omega (arith, int-length (start .args .number) (start .args .n) (omega (arith, c .before .if1 .left)))
 
 put-varint-requires : tie.Need-put-varint-requires
 put-varint-requires c κs =
     let first = c .before .before .before in
     let start = first .before .before .before .before in
     let room = int-length (start .args .number) (start .args .n) (omega (arith, first .before .before .if1 .left)) in
-    omega (arith, room, first .put-small .ensures .place, written-length (first .put-small .ensures))
+    omega (arith, room, first .put-key .ensures .place, written-length (first .put-key .ensures))
 
 same-length : tie.Need-same-length
 same-length c = search needs
@@ -38,15 +34,14 @@ returns-2 c =
     let first = second .before .before .before .before in
     let start = first .before .before .before .before in
     int-written (start .args .number) (start .args .n) (omega (arith, first .before .before .if1 .left))
-    (first .put-small .ensures) (second .put-varint .ensures)
+    (first .put-key .ensures) (second .put-varint .ensures)
 
 pub put-int-spec : {M : Type 1} → statement M
 put-int-spec =
     tie.close
     (tie.spec
     returns
-    mul-put-small
-    put-small-requires
+    put-key-requires
     put-varint-requires
     same-length
     returns-2)
