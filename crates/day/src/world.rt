@@ -240,7 +240,7 @@ pub fn heard(mut w: World, a: Answer, out: &[u8]) -> World
 {
     let bank = w.bank.heard(a);
     w.bank = bank;
-    let r = transport::handed(a);
+    let r = shown::handed(a);
     match r {
         MaybeRequest::Absent => w,
         MaybeRequest::Present(x) => send(w, x, out),

@@ -1,8 +1,12 @@
 // Ported from google-cloud-storage 1.21.0, src/storage/bidi_write/transport.rs, Copyright 2026 Google LLC (Apache-2.0); changed: no tasks, channels or heap.
-// What a host may see of its session, by value.
+// What a host may see of its session, by value, and of an answer.
+ghost use mathlib.Core.Path.{_≡_};
+ghost use Rattle.transport.specs.View.{handed};
 ghost use Rattle.shown.specs.Shown.{Shown, Dials};
 use bidi_write::Offset;
 use state::AppendObjectSpec;
+use transport::Answer;
+use transport::MaybeRequest;
 use transport::Phase;
 use transport::Session;
 
@@ -41,4 +45,21 @@ pub fn spec_of(s: Session) -> AppendObjectSpec
     ensures { λ r. ⌜ Dials s r ⌝ }
 {
     s.worker.connector.spec
+}
+
+// The request that an answer hands out.
+pub fn handed(answer: Answer) -> MaybeRequest
+    ensures { λ r. ⌜ r ≡ handed answer ⌝ }
+{
+    match answer {
+        Answer::Refused(_) => MaybeRequest::Absent,
+        Answer::Took(_, r) => r,
+        Answer::Sends(r) => MaybeRequest::Present(r),
+        Answer::Waits(r, _) => MaybeRequest::Present(r),
+        Answer::Completes(c) => c.request,
+        Answer::Attempt(_) => MaybeRequest::Absent,
+        Answer::Accepted => MaybeRequest::Absent,
+        Answer::Done => MaybeRequest::Absent,
+        Answer::Ends(_) => MaybeRequest::Absent,
+    }
 }

@@ -107,7 +107,7 @@ fn follow(
 // A refused call leaves the request of the one before.
 fn last(a: Answer, before: MaybeRequest) -> MaybeRequest {
     let Answer::Refused(_) = a else {
-        return transport::handed(a);
+        return shown::handed(a);
     };
     before
 }

@@ -23,7 +23,7 @@ pub fn answer(out: &mut [u8], n: usize, call: Call, a: Answer, room: &[u8]) -> u
     requires { ⌜ sentLength a ≤ length (now room) ⌝ }
 {
     let n = line(out, n, bench_lines::line(mark(call), a));
-    let n = maybe_fields(out, n, transport::handed(a), room);
+    let n = maybe_fields(out, n, shown::handed(a), room);
     ended(out, n, a)
 }
 

@@ -11,8 +11,6 @@ use bidi_write::Offset;
 use bidi_write::Refusal;
 use bidi_write::Request;
 use worker::Worker;
-ghost use mathlib.Core.Path.{_≡_};
-ghost use Rattle.transport.specs.View.{handed};
 
 // How far a replay has come: the next request, and the bytes of the chunks before it.
 pub struct Cursor {
@@ -95,21 +93,4 @@ pub enum Answer {
 pub struct Outcome {
     pub session: Session,
     pub answer: Answer,
-}
-
-// The request that an answer hands out.
-pub fn handed(answer: Answer) -> MaybeRequest
-    ensures { λ r. ⌜ r ≡ handed answer ⌝ }
-{
-    match answer {
-        Answer::Refused(_) => MaybeRequest::Absent,
-        Answer::Took(_, r) => r,
-        Answer::Sends(r) => MaybeRequest::Present(r),
-        Answer::Waits(r, _) => MaybeRequest::Present(r),
-        Answer::Completes(c) => c.request,
-        Answer::Attempt(_) => MaybeRequest::Absent,
-        Answer::Accepted => MaybeRequest::Absent,
-        Answer::Done => MaybeRequest::Absent,
-        Answer::Ends(_) => MaybeRequest::Absent,
-    }
 }

@@ -1,9 +1,9 @@
--- `transport::handed` meets its contract, by the variant that is met.
+-- `shown::handed` meets its contract, by the variant that is met.
 -- Assumes nothing.
 use mathlib.Core.Path.{refl}
 use borrow.Author.Needs.{needs}
-use Rattle.transport.proofs.handed.Statement.{statement}
-use Rattle.transport.proofs.handed.Tie as tie
+use Rattle.shown.proofs.handed.Statement.{statement}
+use Rattle.shown.proofs.handed.Tie as tie
 
 enum-told : tie.Need-enum-told
 enum-told c = search needs
