@@ -20,9 +20,9 @@ use Rattle.transport.specs.declared.Session.{Session}
 use Rattle.transport.specs.declared.Outcome.{Outcome}
 use Rattle.transport.proofs.Claim.{bound-of}
 use Rattle.openings.proofs.Openings.{accepted-is}
-use Rattle.wire.specs.Sendable.{AlwaysSendable}
-use Rattle.wire.proofs.Sendable.{handed-out-reads}
 use Rattle.claims.specs.Claim.{Ensures, Begins, Always, AlwaysCalled, StoredBound}
+use Rattle.claims.specs.Sendable.{AlwaysSendable}
+use Rattle.claims.proofs.Sendable.{handed-out-reads}
 
 -- a promise at memory that is the same
 module _ (c : R.Call) (m : Memory) (r : Outcome) where

@@ -1,3 +1,4 @@
+pub mod Sendable
 pub mod Claim
 pub mod Tied
 pub mod Example

@@ -2,4 +2,3 @@ pub mod Signs
 pub mod Writing
 pub mod Range
 pub mod Answer
-pub mod Sendable

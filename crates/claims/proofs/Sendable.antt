@@ -19,8 +19,8 @@ use Rattle.transport.specs.declared.Answer.the-variants as call
 use Rattle.transport.specs.Claim.{Promises}
 use Rattle.wire_format.specs.Wire.{contentLength}
 use Rattle.wire_format.proofs.Room.{shortest-room}
 use Rattle.wire.specs.Answer.{refuses, answered}
-use Rattle.wire.specs.Sendable.{AlwaysSendable}
+use Rattle.claims.specs.Sendable.{AlwaysSendable}
 
 hands : (x : Answer) (out : Bytes) → requestIn (answerOf x out) ≡ maybeOf (handed x) out
 hands (call.Refused y) out = refl
