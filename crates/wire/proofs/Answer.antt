@@ -11,6 +11,7 @@ use lib.ListN.{length, take, drop}
 use lib.Seq.{sets-eq, take-at}
 use Rattle.rules.specs.Message.{Bytes}
 use Rattle.copying.specs.Written.{Written}
+use Rattle.copying.proofs.Written.{written-length}
 use Rattle.bidi_write.specs.View.{lengthOf, requestOf}
 use Rattle.bidi_write.specs.declared.Refusal.the-variants as refusal
 use Rattle.bidi_write.specs.declared.Request.{Request}
@@ -28,6 +29,7 @@ module _ (r : Request) (lent buffer : Bytes) (h : InRange (requestOf r lent)) wh
         answer-is = rw t;
         buffer-is = rw t;
         reads = λ n e. let z : _≡_ {A = ℕ} 0 1 = cc in absurd (omega arith);
+        within = λ n e. let z : _≡_ {A = ℕ} 0 1 = cc in absurd (omega arith);
         least = shortest-is (requestOf r lent) h;
       }
 
@@ -55,5 +57,6 @@ module _ (r : Request) (lent buffer : Bytes) (h : InRange (requestOf r lent)) wh
           reads = λ n e.
               let same : m ≡ n = cc in
               ap readRequest (ap (take n) front ∙ take-at q (drop (length q) buffer) n (sym count ∙ same)) ∙ reads-back (requestOf r lent) h;
+          within = λ n e. let same : m ≡ n = cc in omega (arith, count, same, written-length w);
           least = shortest-is (requestOf r lent) h;
         }

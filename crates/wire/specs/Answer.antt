@@ -3,7 +3,7 @@ use mathlib.Core.Path.{_≡_}
 use mathlib.Core.Bool.{Bool, cond, _||_}
 use mathlib.Core.List.{_++_}
 use mathlib.Core.Option.{some}
-use Prim.Native.Nat.{ℕ}
+use Prim.Native.Nat.{ℕ, _≤_}
 use lib.Dec.{ltb}
 use lib.ListN.{length, take, drop}
 use Rattle.rules.specs.Message.{Bytes}
@@ -30,5 +30,7 @@ pub record Writes (r : Request) (lent buffer : Bytes) (a : WriteAnswer) (buffer�
   pub buffer-is : buffer′ ≡ written r lent buffer
   -- "Reading the bytes by the protobuf rules must yield that request and no other."
   pub reads : (n : ℕ) → a ≡ answer.Wrote n → readRequest (take n buffer′) ≡ some (requestOf r lent)
+  -- so the front can be cut off
+  pub within : (n : ℕ) → a ≡ answer.Wrote n → n ≤ length buffer′
   -- no message that reads as the request is shorter
   pub least : Shortest (requestOf r lent) (shortest (requestOf r lent))
