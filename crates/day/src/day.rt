@@ -21,11 +21,12 @@ const CAPACITY: usize = 16384;
 // More calls than a day can need.
 const MOST_CALLS: u64 = 10000000;
 
-// The store is the ring's size, capacity + 2 * limit - 2. An event has at most 9,000 bytes.
+// The store is the ring's size, capacity + 2 * limit - 2. An event has at most 9,000 bytes. A message has at most 39 bytes more than its data.
 pub fn run(seed: u64, breaks: u64) -> World {
     let mut store = [0u8; 24574];
     let mut table = [0u64; 64];
     let mut out = [0u8; 4096];
+    let mut message = [0u8; 4135];
     let mut event = [0u8; 9000];
     let opened = open(&mut store, &mut table);
     let mut s = opened.session;
@@ -49,7 +50,7 @@ pub fn run(seed: u64, breaks: u64) -> World {
         );
         s = r.session;
         let answer = r.answer;
-        w = world::heard(w, answer, &out);
+        w = world::heard(w, answer, &out, &mut message);
         calls = calls_left(w, calls - 1);
     }
     w

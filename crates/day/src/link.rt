@@ -42,6 +42,8 @@ pub struct Link {
     // the last break or failed attempt
     pub kind: u64,
     // today's figures
+    pub bytes: u64,
+    pub sum: u32,
     pub broken: u64,
     pub redirects: u64,
     pub failed_attempts: u64,
@@ -55,6 +57,8 @@ pub fn new(breaks: u64) -> Link {
         in_a_row: 0,
         stated: 0,
         kind: END,
+        bytes: 0,
+        sum: 0,
         broken: 0,
         redirects: 0,
         failed_attempts: 0,
@@ -71,6 +75,13 @@ impl Link {
             return true;
         }
         chance::draw(key, 20, self.messages) < self.breaks
+    }
+
+    // The modem board was handed a message.
+    pub fn carried(mut self, message: &[u8]) -> Link {
+        self.bytes = wrapping_add_u64(self.bytes, message.len() as u64);
+        self.sum = crc32c::update(self.sum, message);
+        self
     }
 
     // A message arrived.

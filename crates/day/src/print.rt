@@ -122,6 +122,8 @@ fn work(t: Tally) {
 }
 
 fn link(t: Tally) {
+    figure(b"bytes of messages", t.messages);
+    figure(b"their CRC32C", t.sum as u64);
     figure(b"breaks", t.breaks);
     figure(b"redirects", t.redirects);
     figure(b"failed attempts to connect", t.failed_attempts);

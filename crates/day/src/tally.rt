@@ -12,6 +12,9 @@ pub struct Tally {
     pub chunks: u64,
     pub own_flushes: u64,
     pub waiters: u64,
+    // the messages' bytes, and their CRC32C
+    pub messages: u64,
+    pub sum: u32,
     pub breaks: u64,
     pub redirects: u64,
     pub failed_attempts: u64,
@@ -32,6 +35,8 @@ pub fn new() -> Tally {
         bytes: 0,
         chunks: 0,
         own_flushes: 0,
+        messages: 0,
+        sum: 0,
         breaks: 0,
         redirects: 0,
         failed_attempts: 0,
@@ -69,6 +74,8 @@ impl Tally {
     }
 
     fn with_link(mut self, l: Link) -> Tally {
+        self.messages = wrapping_add_u64(self.messages, l.bytes);
+        self.sum = crc32c::combine(self.sum, l.sum, l.bytes);
         self.breaks = wrapping_add_u64(self.breaks, l.broken);
         self.redirects = wrapping_add_u64(self.redirects, l.redirects);
         self.failed_attempts = wrapping_add_u64(self.failed_attempts, l.failed_attempts);

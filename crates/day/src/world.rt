@@ -27,11 +27,14 @@ use admission::LIVE;
 use admission::REPLAY;
 use bidi_write::Call;
 use bidi_write::Data;
+use bidi_write::Refusal;
 use bidi_write::Request;
+use bidi_write::refusal_number;
 use openings::OpenAnswer;
 use std::num::wrapping_add_u64;
 use transport::Answer;
 use transport::MaybeRequest;
+use wire::WriteAnswer;
 
 pub struct World {
     // of what is drawn next, and of the journal
@@ -68,7 +71,7 @@ pub fn new(seed: u64, breaks: u64, a: OpenAnswer, event: &mut [u8]) -> World {
 
 fn opened(a: OpenAnswer) -> u64 {
     match a {
-        OpenAnswer::Refused(x) => bidi_write::refusal_number(x),
+        OpenAnswer::Refused(x) => refusal_number(x),
         OpenAnswer::Opened => 0,
     }
 }
@@ -235,16 +238,33 @@ fn greet(mut w: World) -> Move {
 
 // ---- its answer
 
-pub fn heard(mut w: World, a: Answer, out: &[u8]) -> World
+// The modem board gets the request's message.
+pub fn heard(mut w: World, a: Answer, out: &[u8], message: &mut [u8]) -> World
     requires { ⌜ sentLength a ≤ length (now out) ⌝ }
 {
     let bank = w.bank.heard(a);
     w.bank = bank;
-    let r = shown::handed(a);
-    match r {
-        MaybeRequest::Absent => w,
-        MaybeRequest::Present(x) => send(w, x, out),
+    let handed = shown::handed(a);
+    let MaybeRequest::Present(request) = handed else {
+        return w;
+    };
+    let written = wire::write(request, out, message);
+    match written {
+        WriteAnswer::Wrote(n) => send(carried(w, &message[..n]), request, out),
+        WriteAnswer::Refused(x) => refused(w, x),
     }
+}
+
+fn carried(mut w: World, message: &[u8]) -> World {
+    let link = w.link.carried(message);
+    w.link = link;
+    w
+}
+
+fn refused(mut w: World, x: Refusal) -> World {
+    let number = refusal_number(x);
+    w.bank.trouble = number;
+    w
 }
 
 // The host "sends each request once, on the present connection, or reports it failed". What is sent on a connection that was cut is lost with it.

@@ -1,4 +1,4 @@
-use mathlib.Core.Path.{_≡_}
+use mathlib.Core.Path.{_≡_, sym}
 use native.Mathlib.Omega.{arith}
 use lib.ListN.{length}
 use borrow.Author.Needs.{needs}
@@ -6,105 +6,87 @@ use Rattle.day.proofs.day.run.Statement.{statement}
 use Rattle.day.proofs.day.run.Tie as tie
 
 abbrev Inv-loop : tie.InvT-loop
-Inv-loop seed breaks store₀ table₀ out₀ event₀ s₀ w₀ calls₀ t17 t18 store table out event s w calls =
-    (length store ≡ 24574) × (length table ≡ 64) × (length out ≡ 4096) × (length event ≡ 9000)
+Inv-loop seed breaks store₀ table₀ out₀ message₀ event₀ s₀ w₀ calls₀ t18 t19 store table out message event s w calls =
+    (length store ≡ 24574) × (length table ≡ 64) × (length out ≡ 4096) × (length message ≡ 4135) × (length event ≡ 9000)
 
 abbrev μ-loop : tie.MeasureT-loop
-μ-loop seed breaks store₀ table₀ out₀ event₀ s₀ w₀ calls₀ t17 t18 store table out event s w calls = calls
+μ-loop seed breaks store₀ table₀ out₀ message₀ event₀ s₀ w₀ calls₀ t18 t19 store table out message event s w calls = calls
 
--- src/day.rt:30:23
 slice-aggregate-open : tie.Need-slice-aggregate-open Inv-loop μ-loop
 slice-aggregate-open c = search needs
 
--- src/day.rt:30:35
 slice-aggregate-open-2 : tie.Need-slice-aggregate-open-2 Inv-loop μ-loop
 slice-aggregate-open-2 c = search needs
 
--- src/day.rt:30:9
 open-requires : tie.Need-open-requires Inv-loop μ-loop
 open-requires c κs = search needs
 
--- src/day.rt:33:50
 slice-aggregate-new : tie.Need-slice-aggregate-new Inv-loop μ-loop
 slice-aggregate-new c = search needs
 
--- src/day.rt:33:9
 new-requires : tie.Need-new-requires Inv-loop μ-loop
 new-requires c κs = search needs
 
--- src/day.rt:35:5
 loop-holds : tie.Need-loop-holds Inv-loop μ-loop
 loop-holds c = search needs
 
--- src/day.rt:36:35
 slice-aggregate-next : tie.Need-slice-aggregate-next Inv-loop μ-loop
 slice-aggregate-next c = search needs
 
--- src/day.rt:36:13
 next-requires : tie.Need-next-requires Inv-loop μ-loop
 next-requires c κs = search needs
 
--- src/day.rt:39:25
 slice-aggregate-rest : tie.Need-slice-aggregate-rest Inv-loop μ-loop
 slice-aggregate-rest c = search needs
 
--- src/day.rt:39:13
 rest-requires : tie.Need-rest-requires Inv-loop μ-loop
 rest-requires c κs = search needs
 
--- src/day.rt:40:38
 slice-aggregate-step : tie.Need-slice-aggregate-step Inv-loop μ-loop
 slice-aggregate-step c = search needs
 
--- src/day.rt:40:50
 slice-aggregate-step-2 : tie.Need-slice-aggregate-step-2 Inv-loop μ-loop
 slice-aggregate-step-2 c = search needs
 
--- src/day.rt:40:62
 slice-aggregate-step-3 : tie.Need-slice-aggregate-step-3 Inv-loop μ-loop
 slice-aggregate-step-3 c = search needs
 
--- src/day.rt:40:78
 slice-aggregate-step-4 : tie.Need-slice-aggregate-step-4 Inv-loop μ-loop
 slice-aggregate-step-4 c = search needs
 
--- src/day.rt:40:88
 slice-aggregate-step-5 : tie.Need-slice-aggregate-step-5 Inv-loop μ-loop
 slice-aggregate-step-5 c = search needs
 
--- src/day.rt:40:13
 step-requires : tie.Need-step-requires Inv-loop μ-loop
 step-requires c κs = search needs
 
--- src/day.rt:43:37
 slice-aggregate-heard : tie.Need-slice-aggregate-heard Inv-loop μ-loop
 slice-aggregate-heard c = search needs
 
--- src/day.rt:43:9
+slice-aggregate-heard-2 : tie.Need-slice-aggregate-heard-2 Inv-loop μ-loop
+slice-aggregate-heard-2 c = sym (c .before .before .before .before .before .before .before .before .before .before .before .before .before .before .before .before .before .before .before .loop .inv .3)
+
 heard-requires : tie.Need-heard-requires Inv-loop μ-loop
 heard-requires c κs =
-    let out = c .before .before in
+    let out = c .before .before .before in
     let made = out .before .before .before in
     omega (arith, made .step .ensures .sent-in, out .out2 .given)
 
--- src/day.rt:44:31
 sub-calls-left : tie.Need-sub-calls-left Inv-loop μ-loop
-sub-calls-left c = omega (arith, c .before .before .before .before .before .before .before .before .before .before .before .before .before .before .before .before .before .before .loop-test .taken)
+sub-calls-left c = omega (arith, c .before .before .before .before .before .before .before .before .before .before .before .before .before .before .before .before .before .before .before .before .loop-test .taken)
 
--- src/day.rt:44:9
 calls-left-requires : tie.Need-calls-left-requires Inv-loop μ-loop
 calls-left-requires c κs = search needs
 
--- src/day.rt:35:5
 loop-less : tie.Need-loop-less Inv-loop μ-loop
 loop-less c =
-    let turn = c .before .before .before .before .before .before .before .before .before .before .before .before .before .before .before .before .before .before .before in
+    let turn = c .before .before .before .before .before .before .before .before .before .before .before .before .before .before .before .before .before .before .before .before .before in
     omega (arith, c .calls-left .ensures, turn .loop-test .taken)
 
--- src/day.rt:35:5
 loop-again : tie.Need-loop-again Inv-loop μ-loop
 loop-again c =
-    let out = c .before .before .before .before in
+    let message = c .before in
+    let out = message .before .before .before .before .before in
     let table = out .before in
     let store = table .before in
     let event = store .before .before .before .before .before .before .before .before .before .before in
@@ -112,10 +94,10 @@ loop-again c =
       omega (arith, store .store4 .given, inv .0),
       omega (arith, table .table4 .given, inv .1),
       omega (arith, out .out2 .given, inv .2),
-      omega (arith, event .event4 .given, inv .3),
+      omega (arith, message .message2 .given, inv .3),
+      omega (arith, event .event4 .given, inv .4),
     )
 
--- src/day.rt:25:1
 returns : tie.Need-returns Inv-loop μ-loop
 returns c = search needs
 
@@ -142,6 +124,7 @@ run-spec =
     slice-aggregate-step-5
     step-requires
     slice-aggregate-heard
+    slice-aggregate-heard-2
     heard-requires
     sub-calls-left
     calls-left-requires
