@@ -41,9 +41,10 @@ pub struct Link {
     pub stated: u64,
     // the last break or failed attempt
     pub kind: u64,
-    // today's figures
+    // today's messages: their bytes, and the CRC32C of these
     pub bytes: u64,
     pub sum: u32,
+    // today's figures
     pub broken: u64,
     pub redirects: u64,
     pub failed_attempts: u64,

@@ -12,7 +12,7 @@ pub struct Tally {
     pub chunks: u64,
     pub own_flushes: u64,
     pub waiters: u64,
-    // the messages' bytes, and their CRC32C
+    // the messages' bytes, and the CRC32C of these
     pub messages: u64,
     pub sum: u32,
     pub breaks: u64,

@@ -35,9 +35,7 @@ slice-reshare-prefix-carried c =
     known .before .before .before .before .write .ensures .within (known .written .given .0 .0) (known .written .given .1)
 
 slice-aggregate-carried : tie.Need-slice-aggregate-carried
-slice-aggregate-carried c =
-    let known = c .before .before in
-    sym (length-take-le _ _ (known .before .before .before .before .write .ensures .within (known .written .given .0 .0) (known .written .given .1)))
+slice-aggregate-carried c = sym (length-take-le _ _ (slice-reshare-prefix-carried (c .before)))
 
 carried-requires : tie.Need-carried-requires
 carried-requires c κs = search needs
