@@ -64,7 +64,7 @@ value-least type input =
 
 -- ---- one field
 
-field-pos : (f : Field) → 1 ≤ length (fieldBytes f)
+pub field-pos : (f : Field) → 1 ≤ length (fieldBytes f)
 unfolding fieldBytes
 field-pos f = rw length-append (omega (arith, groupsOf-pos 9 (f .number * 8 + wireType (f .value))))
 
@@ -79,7 +79,7 @@ field-back f rest h =
     let key = varint-back (f .number * 8 + wireType (f .value)) (valueBytes (f .value) ++ rest) w in
     rw (append-assoc, key, n, t, low, high, value-back (f .value) rest (h .inside))
 
-field-least : (input : Bytes) → All (λ r. length (fieldBytes (r .0)) + length (r .1) ≤ length input) (readField input)
+pub field-least : (input : Bytes) → All (λ r. length (fieldBytes (r .0)) + length (r .1) ≤ length input) (readField input)
 unfolding readField fieldBytes
 field-least input =
     all-then (varint-least input) (λ k h. all-then

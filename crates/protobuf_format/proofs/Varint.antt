@@ -23,11 +23,11 @@ many : (k n : ℕ) → 128 ≤ n → groupsOf (suc k) n ≡ (128 + n % 128) ∷ 
 unfolding groupsOf
 many k n h = rw (le-ltb n 128 h)
 
-last : (k b : ℕ) (input : Bytes) → b < 128 → groups (suc k) (b ∷ input) ≡ some (b, input)
+pub last : (k b : ℕ) (input : Bytes) → b < 128 → groups (suc k) (b ∷ input) ≡ some (b, input)
 unfolding groups
 last k b input h = rw (lt-ltb b 128 h)
 
-more : (k b : ℕ) (input : Bytes) → 128 ≤ b → groups (suc k) (b ∷ input) ≡ (groups k input >>= λ (n, rest). some (b % 128 + 128 * n, rest))
+pub more : (k b : ℕ) (input : Bytes) → 128 ≤ b → groups (suc k) (b ∷ input) ≡ (groups k input >>= λ (n, rest). some (b % 128 + 128 * n, rest))
 unfolding groups
 more k b input h = rw (le-ltb b 128 h)
 

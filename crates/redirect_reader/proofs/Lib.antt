@@ -1,0 +1,4 @@
+pub mod Merges
+pub mod Handles
+pub mod Redirects
+pub mod Claims
