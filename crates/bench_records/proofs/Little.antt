@@ -2,12 +2,11 @@
 -- Assumes nothing.
 use mathlib.Core.Path.{_≡_, refl, ap, _∙_}
 use mathlib.Core.List.{[], _∷_}
-use Prim.Native.Nat.{ℕ, zero, suc, _+_, _*_, _^_, _≤_}
+use Prim.Native.Nat.{ℕ, _+_, _*_, _^_, _≤_}
 use native.Mathlib.Nat.{add-zero}
 use native.Mathlib.Omega.{arith}
 use lib.ListN.{length, take, drop, getD, length-drop}
 use lib.Seq.{length-take-le, take-add, getD-drop, drop-drop}
-use lib.IntN.{pos, negsuc, _-ℤ_}
 use Rattle.rules.specs.Message.{Bytes}
 use Rattle.little_endian.specs.Little.{little}
 use Rattle.little_endian.proofs.Little.{little-append}
@@ -30,8 +29,3 @@ first-two (a ∷ b ∷ s) h = refl
 pub two : (m : ℕ) (s : Bytes) → m + 2 ≤ length s → take 2 (drop m s) ≡ getD s m 0 ∷ getD s (m + 1) 0 ∷ []
 two m s h =
     first-two (drop m s) (omega (arith, length-drop m s)) ∙ rw (getD-drop m s 0 0, getD-drop m s 1 0, add-zero m)
-
--- from -1 down
-pub below-zero : (k : ℕ) → negsuc 0 -ℤ pos k ≡ negsuc k
-below-zero zero = refl
-below-zero (suc k) = ap negsuc (omega arith)

@@ -9,6 +9,7 @@ ghost use Rattle.little_endian.specs.Little.{little};
 ghost use Rattle.bench_records.specs.Record.{format, after, reading};
 ghost use Rattle.bench_records.specs.View.{readingOf, Within};
 use bidi_write::Offset;
+use bidi_write::i64_of;
 
 // The marks, as little-endian numbers.
 const OP: u16 = b'O' as u16 + 256 * b'P' as u16;
@@ -85,16 +86,6 @@ pub fn u64_of(low: u32, high: u32) -> u64
     ensures { λ r. ⌜ r ≡ low + 0x1_0000_0000 * high ⌝ }
 {
     low as u64 + 0x1_0000_0000 * (high as u64)
-}
-
-// The upper half of the 64-bit numbers stands for those below zero.
-pub fn i64_of(n: u64) -> i64
-    ensures { λ r. ⌜ r ≡ toZ w64 n ⌝ }
-{
-    if n < 0x8000_0000_0000_0000 {
-        return n as i64;
-    }
-    -1 - (0xFFFF_FFFF_FFFF_FFFF - n) as i64
 }
 
 fn u16_at(b: &[u8], at: usize) -> u16

@@ -6,6 +6,8 @@ ghost use mathlib.Core.Bool.{_&&_, _||_};
 ghost use Prim.Native.Nat.{_+_, _<_, _≤_, _^_};
 ghost use lib.IntN.{pos, _+ℤ_, _-ℤ_};
 ghost use lib.Signed.{ltZ};
+ghost use mir.Syntax.{w64};
+ghost use mir.Val.{toZ};
 ghost use Rattle.bidi_write.specs.Numbers.{toℕ, Differs};
 ghost use Rattle.bidi_write.specs.Refusal.{numberOf, rowed};
 ghost use Rattle.bidi_write.specs.View.{sizeOf, statusOf};
@@ -259,6 +261,16 @@ pub fn from_nat(n: u64) -> Offset
     ensures { λ r. ⌜ r ≡ record { 0 = pos n } ⌝ }
 {
     Offset(n as i64)
+}
+
+// The upper half of the 64-bit numbers stands for those below zero.
+pub fn i64_of(n: u64) -> i64
+    ensures { λ r. ⌜ r ≡ toZ w64 n ⌝ }
+{
+    if n < 0x8000_0000_0000_0000 {
+        return n as i64;
+    }
+    -1 - (0xFFFF_FFFF_FFFF_FFFF - n) as i64
 }
 
 // ---- refusals

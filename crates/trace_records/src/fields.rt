@@ -99,7 +99,7 @@ pub fn u32_at(input: &[u8], at: usize) -> U32 {
 pub fn i64_at(input: &[u8], at: usize) -> I64 {
     let low = u32_at(input, at);
     let high = u32_at(input, low.next);
-    let x = bench_records::i64_of(bench_records::u64_of(low.value, high.value));
+    let x = bidi_write::i64_of(bench_records::u64_of(low.value, high.value));
     I64 {
         given: true,
         value: x,

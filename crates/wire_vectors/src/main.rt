@@ -9,7 +9,6 @@
 //   21 u16 the buffer's length, at most 32,768
 // A record that is cut, or that has another flag, ends the run.
 ghost use Prim.Native.Nat.{_≤_};
-use bench_records::i64_of;
 use bench_records::u16_of;
 use bench_records::u32_of;
 use bench_records::u64_of;
@@ -18,6 +17,7 @@ use bidi_write::ChecksummedData;
 use bidi_write::Data;
 use bidi_write::Offset;
 use bidi_write::Request;
+use bidi_write::i64_of;
 use bidi_write::refusal_number;
 use libc::STDIN_FILENO;
 use libc::STDOUT_FILENO;

@@ -1,15 +1,19 @@
--- `bench_records::i64_of` meets its contract: the upper half of the bits are the numbers below 0.
+-- `bidi_write::i64_of` meets its contract: the upper half of the bits are the numbers below 0.
 use borrow.Author.Needs.{needs}
-use mathlib.Core.Path.{_≡_, sym, ap, _∙_}
-use Prim.Native.Nat.{ℕ, suc, _-_, _≤_, _<_, _^_}
+use mathlib.Core.Path.{_≡_, refl, sym, ap, _∙_}
+use Prim.Native.Nat.{ℕ, zero, suc, _-_, _≤_, _<_, _^_}
 use native.Mathlib.Omega.{arith}
-use lib.IntN.{ℤ, negsuc, _-ℤ_}
+use lib.IntN.{ℤ, pos, negsuc, _-ℤ_}
 use mir.Syntax.{w64}
 use mir.Val.{toZ, SFits}
 use mir.Facts.{toZ-pos, toZ-neg, toZ-ofZ}
-use Rattle.bench_records.proofs.Little.{below-zero}
-use Rattle.bench_records.proofs.i64_of.Statement.{statement}
-use Rattle.bench_records.proofs.i64_of.Tie as tie
+use Rattle.bidi_write.proofs.i64_of.Statement.{statement}
+use Rattle.bidi_write.proofs.i64_of.Tie as tie
+
+-- from -1 down
+below-zero : (k : ℕ) → negsuc 0 -ℤ pos k ≡ negsuc k
+below-zero zero = refl
+below-zero (suc k) = ap negsuc (omega arith)
 
 -- k below -1
 minus : (k : ℕ) → k < 2 ^ 63 → negsuc 0 -ℤ toZ w64 k ≡ negsuc k
