@@ -1,5 +1,5 @@
--- The rows of an opening and of each call after it: "Opening checks 1 to 5 in order. Later calls check 7, 12, 6, 13, 4, 11, 8, 9, 10, as far as they apply."
--- The phase is its number in the rules.
+-- The rows of an opening and of each call after it: "Opening checks 1 to 5 in order. Later calls check 7, 12, 6, 13, 4, 11, 8, 9, 10, as far as they apply",
+-- and 15 "between 13 and 4". The phase is its number in the rules.
 use mathlib.Core.Bool.{Bool, not, _&&_, _||_}
 use mathlib.Core.List.{[], _∷_}
 use Prim.Native.Nat.{ℕ, _+_, _-_, _^_}
@@ -55,15 +55,25 @@ closeRows phase full = (eqb phase 6, refusal.Ended) ∷ (not (eqb phase 1), refu
 abbrev pub messageRows : (ended phase long : Bool) → Rows
 messageRows ended phase long = (ended, refusal.Ended) ∷ (phase, refusal.WrongPhase) ∷ (long, refusal.TooLong) ∷ []
 
-abbrev pub breakRows : ℕ → Bool → Rows
-breakRows phase long = (eqb phase 6, refusal.Ended) ∷ (not (eqb phase 1 || eqb phase 5), refusal.WrongPhase) ∷ (long, refusal.TooLong) ∷ []
+abbrev pub breakRows : (phase : ℕ) (malformed long : Bool) → Rows
+breakRows phase malformed long =
+    (eqb phase 6, refusal.Ended)
+    ∷ (not (eqb phase 1 || eqb phase 5), refusal.WrongPhase)
+    ∷ (malformed, refusal.Malformed)
+    ∷ (long, refusal.TooLong)
+    ∷ []
 
 abbrev pub judgeRows : ℕ → Bool → Rows
 judgeRows phase valid = (eqb phase 6, refusal.Ended) ∷ (not (eqb phase 2), refusal.WrongPhase) ∷ (not valid, refusal.BadVerdict) ∷ []
 
-abbrev pub failRows : ℕ → Bool → Bool → Rows
-failRows phase valid long =
-    (eqb phase 6, refusal.Ended) ∷ (not (eqb phase 3), refusal.WrongPhase) ∷ (not valid, refusal.BadVerdict) ∷ (long, refusal.TooLong) ∷ []
+abbrev pub failRows : (phase : ℕ) (valid malformed long : Bool) → Rows
+failRows phase valid malformed long =
+    (eqb phase 6, refusal.Ended)
+    ∷ (not (eqb phase 3), refusal.WrongPhase)
+    ∷ (not valid, refusal.BadVerdict)
+    ∷ (malformed, refusal.Malformed)
+    ∷ (long, refusal.TooLong)
+    ∷ []
 
 abbrev pub nextRows : ℕ → Bool → Rows
 nextRows phase short = (eqb phase 6, refusal.Ended) ∷ (not (eqb phase 4), refusal.WrongPhase) ∷ (short, refusal.ShortOut) ∷ []

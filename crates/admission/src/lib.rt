@@ -1,5 +1,5 @@
-// Whether an opening or a call goes on: the rows of its tests, on plain numbers, in the paper's order: "Opening checks 1 to 5 in order. Later calls check 7, 12, 6,
-// 13, 4, 11, 8, 9, 10, as far as they apply."
+// Whether an opening or a call goes on: the rows of its tests, on plain numbers, in the papers' order: "Opening checks 1 to 5 in order. Later calls check 7, 12, 6,
+// 13, 4, 11, 8, 9, 10, as far as they apply", and 15 "between 13 and 4".
 ghost use mathlib.Core.Path.{_≡_};
 ghost use mathlib.Core.Bool.{not, _||_};
 ghost use Prim.Native.Nat.{_+_, _-_, _^_};
@@ -133,13 +133,14 @@ pub fn message(ended: bool, wrong_phase: bool, long: bool) -> Check
         .row(long, Refusal::TooLong)
 }
 
-pub fn stream_break(phase: u8, long: bool) -> Check
-    ensures { λ r. ⌜ r ≡ checked (breakRows phase long) ⌝ }
+pub fn stream_break(phase: u8, malformed: bool, long: bool) -> Check
+    ensures { λ r. ⌜ r ≡ checked (breakRows phase malformed long) ⌝ }
 {
     let streams = is_streaming(phase);
     Check::Go
         .row(phase == ENDED, Refusal::Ended)
         .row(!streams, Refusal::WrongPhase)
+        .row(malformed, Refusal::Malformed)
         .row(long, Refusal::TooLong)
 }
 
@@ -152,13 +153,14 @@ pub fn judge(phase: u8, valid: bool) -> Check
         .row(!valid, Refusal::BadVerdict)
 }
 
-pub fn failed_attempt(phase: u8, valid: bool, long: bool) -> Check
-    ensures { λ r. ⌜ r ≡ checked (failRows phase valid long) ⌝ }
+pub fn failed_attempt(phase: u8, valid: bool, malformed: bool, long: bool) -> Check
+    ensures { λ r. ⌜ r ≡ checked (failRows phase valid malformed long) ⌝ }
 {
     Check::Go
         .row(phase == ENDED, Refusal::Ended)
         .row(phase != CONNECTING, Refusal::WrongPhase)
         .row(!valid, Refusal::BadVerdict)
+        .row(malformed, Refusal::Malformed)
         .row(long, Refusal::TooLong)
 }
 

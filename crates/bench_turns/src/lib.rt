@@ -64,7 +64,7 @@ pub fn open(limit: usize, capacity: usize, p: Offset, store: &mut [u8], table: &
 
 // "Responses hold a size alone."
 fn sized(n: Offset) -> Response
-    ensures { λ r. ⌜ responseOf r [] ≡ Bench·sized (n .0) ⌝ }
+    ensures { λ r. ⌜ ((handle : Bytes) → responseOf r handle ≡ Bench·sized (n .0)) ⌝ }
 {
     Response {
         write_status: WriteStatus::PersistedSize(n),
@@ -83,11 +83,11 @@ pub fn call(
 ) -> Outcome
     ensures { λ r. ⌜ Makes c (now («data» .entry)) s (now (store .entry)) (now (table .entry)) (now (out .entry)) r (now (store .exit)) (now (table .exit)) (now (out .exit)) ⌝ }
 {
-    steps::step(s, call_of(c), store, table, out, data, b"", b"")
+    steps::step(s, call_of(c), store, table, out, data)
 }
 
 fn call_of(c: CallRecord) -> Call
-    ensures { λ r. ⌜ ((bytes : Bytes) (out : ℕ) → View·callOf r bytes [] [] out ≡ callOf c bytes out) ⌝ }
+    ensures { λ r. ⌜ ((bytes : Bytes) (out : ℕ) → View·callOf r bytes out ≡ callOf c bytes out) ⌝ }
 {
     match c {
         CallRecord::Append => Call::Append,

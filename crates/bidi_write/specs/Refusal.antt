@@ -23,6 +23,7 @@ numberOf refusal.ShortOut = 11
 numberOf refusal.Closed = 12
 numberOf refusal.BadVerdict = 13
 numberOf refusal.ShortBuffer = 14
+numberOf refusal.Malformed = 15
 
 abbrev pub Rows : Type 0
 Rows = List (Bool × Refusal)

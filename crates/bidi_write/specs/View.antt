@@ -4,6 +4,7 @@ use mathlib.Core.Option.{Option, none, some}
 use Prim.Native.Nat.{ℕ}
 use lib.ListN.{take}
 use lib.IntN.{ℤ}
+pub use Rattle.protobuf_format.specs.Reading.{given}
 use Rattle.rules.specs.Message as M
 use Rattle.rules.specs.Session as S
 use Rattle.bidi_write.specs.declared.Generation.{Generation}
@@ -67,11 +68,7 @@ statusOf status.Absent = none
 statusOf (status.PersistedSize n) = some (M.persistedSize (n .0))
 statusOf (status.Resource r) = some (M.resource (r .size .0) (generationOf (r .generation)) (r .finalized))
 
--- bytes that come beside a record, where it says that they are given
-abbrev pub given : Bool → M.Bytes → Option M.Bytes
-given true b = some b
-given false b = none
-
+-- bytes come beside a record, which says whether they are given
 abbrev pub responseOf : Response → M.Bytes → M.Response
 responseOf m handle = record { writeStatus = statusOf (m .«write_status»); writeHandle = given (m .«has_write_handle») handle }
 
@@ -86,14 +83,14 @@ redirectOf r token handle = record {
   generation = newGenerationOf (r .generation);
 }
 
-abbrev pub detailOf : Detail → M.Bytes → M.Bytes → Option M.Redirect
-detailOf detail.Absent token handle = none
-detailOf (detail.Redirect r) token handle = some (redirectOf r token handle)
+abbrev pub detailOf : Detail → M.Bytes → Option M.Bytes
+detailOf detail.Absent value = none
+detailOf detail.Redirect value = some value
 
-abbrev pub breakOf : Break → M.Bytes → M.Bytes → M.Break
-breakOf stream.EndOfStream token handle = M.endOfStream
-breakOf (stream.Status s) token handle = M.status (s .code) (detailOf (s .detail) token handle)
-breakOf stream.Error token handle = M.otherError
+abbrev pub breakOf : Break → M.Bytes → M.Break
+breakOf stream.EndOfStream value = M.endOfStream
+breakOf (stream.Status s) value = M.status (s .code) (detailOf (s .detail) value)
+breakOf stream.Error value = M.otherError
 
 abbrev pub sizeOf : Size → Option ℤ
 sizeOf size.Absent = none
@@ -109,15 +106,15 @@ causeOf cause.GivenUp = S.givenUp
 causeOf cause.StreamError = S.streamError
 
 -- a call with the bytes beside it, and the length of the out buffer that it is lent
-abbrev pub callOf : Call → (bytes token handle : M.Bytes) → ℕ → S.Call
-callOf call.Append bytes token handle out = S.append bytes out
-callOf call.Flush bytes token handle out = S.flush out
-callOf call.Finalise bytes token handle out = S.finalise out
-callOf call.NextRequest bytes token handle out = S.nextRequest out
-callOf call.Close bytes token handle out = S.close
-callOf call.SendFailed bytes token handle out = S.sendFailed
-callOf (call.Response m) bytes token handle out = S.response (responseOf m handle)
-callOf (call.Handshake m) bytes token handle out = S.handshake (responseOf m handle)
-callOf (call.Break b) bytes token handle out = S.break (breakOf b token handle)
-callOf (call.Judge v) bytes token handle out = S.judge v
-callOf (call.FailedAttempt b v) bytes token handle out = S.failedAttempt (breakOf b token handle) v
+abbrev pub callOf : Call → M.Bytes → ℕ → S.Call
+callOf call.Append bytes out = S.append bytes out
+callOf call.Flush bytes out = S.flush out
+callOf call.Finalise bytes out = S.finalise out
+callOf call.NextRequest bytes out = S.nextRequest out
+callOf call.Close bytes out = S.close
+callOf call.SendFailed bytes out = S.sendFailed
+callOf (call.Response m) bytes out = S.response (responseOf m bytes)
+callOf (call.Handshake m) bytes out = S.handshake (responseOf m bytes)
+callOf (call.Break b) bytes out = S.break (breakOf b bytes)
+callOf (call.Judge v) bytes out = S.judge v
+callOf (call.FailedAttempt b v) bytes out = S.failedAttempt (breakOf b bytes) v

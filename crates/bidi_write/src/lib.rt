@@ -87,16 +87,17 @@ pub enum NewGeneration {
     Given(Generation),
 }
 
-// The detail of a status that redirects; the token's and the handle's bytes come beside it.
+// What a redirect's detail says; the token's and the handle's bytes come beside it.
 pub struct Redirect {
     pub has_routing_token: bool,
     pub has_write_handle: bool,
     pub generation: NewGeneration,
 }
 
+// The detail of a status, which redirects or is absent; its value, as received, comes beside it.
 pub enum Detail {
     Absent,
-    Redirect(Redirect),
+    Redirect,
 }
 
 pub struct Status {
@@ -127,7 +128,7 @@ pub enum Size {
     Stated(Offset),
 }
 
-// A call after opening. An append's data, a redirect's token and handle and a response's handle come beside it.
+// A call after opening. An append's data, a response's handle or the value of a break's detail comes beside it.
 pub enum Call {
     Append,
     Flush,
@@ -142,7 +143,7 @@ pub enum Call {
     FailedAttempt(Break, u8),
 }
 
-// Why a call was refused: the papers' numbers 1 to 14, in their order.
+// Why a call was refused: the papers' numbers 1 to 15, in their order.
 pub enum Refusal {
     Limits,
     ShortMemory,
@@ -158,6 +159,7 @@ pub enum Refusal {
     Closed,
     BadVerdict,
     ShortBuffer,
+    Malformed,
 }
 
 // Whether a call goes on.
@@ -294,6 +296,7 @@ pub fn refusal_number(x: Refusal) -> u64
         Refusal::Closed => 12,
         Refusal::BadVerdict => 13,
         Refusal::ShortBuffer => 14,
+        Refusal::Malformed => 15,
     }
 }
 

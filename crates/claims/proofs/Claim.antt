@@ -12,16 +12,18 @@ use Rattle.rules.specs.Beyond.{HoldsBeyond}
 use Rattle.rules.specs.Total as total
 use Rattle.rules.specs.Calls.{HoldsCalled}
 use Rattle.rules.proofs.Program as rules
+use Rattle.rules.proofs.Refused.{malformed-exactly}
 use Rattle.transport.specs.View.{view}
 use Rattle.transport.specs.Valid.{Valid}
 use Rattle.transport.specs.Promise.{Promise, Promised, PromisedAt}
-use Rattle.transport.specs.Claim.{Memory, viewOf, ValidAt, Does}
+use Rattle.transport.specs.Claim.{Memory, viewOf, ValidAt, Does, Promises}
 use Rattle.transport.specs.declared.Session.{Session}
 use Rattle.transport.specs.declared.Outcome.{Outcome}
 use Rattle.transport.proofs.Claim.{bound-of}
 use Rattle.openings.proofs.Openings.{accepted-is}
 use Rattle.claims.specs.Claim.{Ensures, Begins, Always, AlwaysCalled, StoredBound}
 use Rattle.claims.specs.Sendable.{AlwaysSendable}
+use Rattle.claims.specs.Malformed.{AlwaysMalformed}
 use Rattle.claims.proofs.Sendable.{handed-out-reads}
 
 -- a promise at memory that is the same
@@ -92,3 +94,10 @@ host-stored-bound = bound-of (Does Ensures) Begins keeps begun
 -- each request that a host's call hands out is written as the rules send it
 pub host-handed-out-reads : AlwaysSendable Ensures
 host-handed-out-reads c m out r store table out′ e = handed-out-reads c m out r store table out′ (promised c m out r store table out′ e)
+
+-- a malformed detail is refused with 15, and nothing else is
+pub program-malformed-exactly : AlwaysMalformed Promises
+program-malformed-exactly c m out o store table out′ p v = ap (λ (x : R.Result). R.refusedWith 15 (x .answer)) (p .steps v) ∙ malformed-exactly c (viewOf m)
+
+pub host-malformed-exactly : AlwaysMalformed Ensures
+host-malformed-exactly c m out o store table out′ e = program-malformed-exactly c m out o store table out′ (promised c m out o store table out′ e)

@@ -113,9 +113,9 @@ module _ {M : Type 1} (𝓤 : URA M) (H : Heap 𝓤) (A : Atoms 𝓤) (mem : Mac
       ≡ (λ _ r end. ⌜ Ensured (R.handshake (responseOf (a .1 .1 .1 .0) (now (a .1 .1 .1 .1 .0)))) (memory (now (a .0)) (now (a .1 .0)) (now (a .1 .1 .0))) out (outcome (now (end .0)) r) (now (a .1 .0)) (now (end .1 .1 .0)) out ⌝)
   handshake-tied κs a out = refl
 
-  stream-break-tied : (κs : Lfts 3) (a : Args stream-break.signature κs) (store : Bytes) (table : List ℕ) (out : Bytes)
+  stream-break-tied : (κs : Lfts 2) (a : Args stream-break.signature κs) (store : Bytes) (table : List ℕ) (out : Bytes)
       → stream-break.clauses 𝓤 H A mem run κs a .ensures
-      ≡ (λ _ r end. ⌜ Ensured (R.break (breakOf (a .1 .0) (now (a .1 .1 .0)) (now (a .1 .1 .1 .0)))) (memory (now (a .0)) store table) out (outcome (now (end .0)) r) store table out ⌝)
+      ≡ (λ _ r end. ⌜ Ensured (R.break (breakOf (a .1 .0) (now (a .1 .1 .0)))) (memory (now (a .0)) store table) out (outcome (now (end .0)) r) store table out ⌝)
   stream-break-tied κs a store table out = refl
 
   judge-tied : (κs : Lfts 1) (a : Args judge.signature κs) (store : Bytes) (table : List ℕ) (out : Bytes)
@@ -123,9 +123,9 @@ module _ {M : Type 1} (𝓤 : URA M) (H : Heap 𝓤) (A : Atoms 𝓤) (mem : Mac
       ≡ (λ _ r end. ⌜ Ensured (R.judge (a .1 .0)) (memory (now (a .0)) store table) out (outcome (now (end .0)) r) store table out ⌝)
   judge-tied κs a store table out = refl
 
-  failed-attempt-tied : (κs : Lfts 3) (a : Args failed-attempt.signature κs) (store : Bytes) (table : List ℕ) (out : Bytes)
+  failed-attempt-tied : (κs : Lfts 2) (a : Args failed-attempt.signature κs) (store : Bytes) (table : List ℕ) (out : Bytes)
       → failed-attempt.clauses 𝓤 H A mem run κs a .ensures
-      ≡ (λ _ r end. ⌜ Ensured (R.failedAttempt (breakOf (a .1 .0) (now (a .1 .1 .0)) (now (a .1 .1 .1 .0))) (a .1 .1 .1 .1 .0)) (memory (now (a .0)) store table) out (outcome (now (end .0)) r) store table out ⌝)
+      ≡ (λ _ r end. ⌜ Ensured (R.failedAttempt (breakOf (a .1 .0) (now (a .1 .1 .0))) (a .1 .1 .1 .0)) (memory (now (a .0)) store table) out (outcome (now (end .0)) r) store table out ⌝)
   failed-attempt-tied κs a store table out = refl
 
   next-request-tied : (κs : Lfts 4) (a : Args next-request.signature κs)
@@ -168,16 +168,16 @@ module _ {M : Type 1} (𝓤 : URA M) (H : Heap 𝓤) (A : Atoms 𝓤) (mem : Mac
       → core-handshake.clauses 𝓤 H A mem run κs a .ensures ≡ (λ _ r end. ⌜ AnyOut (R.handshake (responseOf (a .1 .1 .1 .0) (now (a .1 .1 .1 .1 .0)))) (memory (a .0) (now (a .1 .0)) (now (a .1 .1 .0))) r (now (end .1 .1 .0)) ⌝)
   handshake-core κs a = refl
 
-  stream-break-core : (κs : Lfts 2) (a : Args core-stream-break.signature κs)
-      → core-stream-break.clauses 𝓤 H A mem run κs a .ensures ≡ (λ _ r end. ⌜ Any (R.break (breakOf (a .1 .0) (now (a .1 .1 .0)) (now (a .1 .1 .1 .0)))) (a .0) r ⌝)
+  stream-break-core : (κs : Lfts 1) (a : Args core-stream-break.signature κs)
+      → core-stream-break.clauses 𝓤 H A mem run κs a .ensures ≡ (λ _ r end. ⌜ Any (R.break (breakOf (a .1 .0) (now (a .1 .1 .0)))) (a .0) r ⌝)
   stream-break-core κs a = refl
 
   judge-core : (κs : Lfts 0) (a : Args core-judge.signature κs)
       → core-judge.clauses 𝓤 H A mem run κs a .ensures ≡ (λ _ r end. ⌜ Any (R.judge (a .1 .0)) (a .0) r ⌝)
   judge-core κs a = refl
 
-  failed-attempt-core : (κs : Lfts 2) (a : Args core-failed-attempt.signature κs)
-      → core-failed-attempt.clauses 𝓤 H A mem run κs a .ensures ≡ (λ _ r end. ⌜ Any (R.failedAttempt (breakOf (a .1 .0) (now (a .1 .1 .0)) (now (a .1 .1 .1 .0))) (a .1 .1 .1 .1 .0)) (a .0) r ⌝)
+  failed-attempt-core : (κs : Lfts 1) (a : Args core-failed-attempt.signature κs)
+      → core-failed-attempt.clauses 𝓤 H A mem run κs a .ensures ≡ (λ _ r end. ⌜ Any (R.failedAttempt (breakOf (a .1 .0) (now (a .1 .1 .0))) (a .1 .1 .1 .0)) (a .0) r ⌝)
   failed-attempt-core κs a = refl
 
   next-request-core : (κs : Lfts 3) (a : Args core-next-request.signature κs)

@@ -1,2 +1,3 @@
 pub mod Claim
 pub mod Sendable
+pub mod Malformed

@@ -1,3 +1,3 @@
-pub mod Detail
 pub mod Counts
+pub mod Parts
 pub mod Prefix

@@ -3,19 +3,24 @@ ghost use mathlib.Core.Path.{_≡_};
 ghost use mathlib.Core.Bool.{false};
 ghost use mathlib.Core.Option.{some};
 ghost use Prim.Native.Nat.{_<_, _-_, _^_};
-ghost use Rattle.bidi_write.specs.View.{given, responseOf, redirectOf, breakOf, sizeOf};
+ghost use lib.ListN.{length};
+ghost use Rattle.bidi_write.specs.View.{given, responseOf, sizeOf};
 ghost use Rattle.rules.specs.Message as M;
 ghost use Rattle.rules.specs.Respond.{updated, progress};
 ghost use Rattle.rules.specs.Reconnect.{overlong, rerouted, attempted, counted};
+ghost use Rattle.rules.specs.Spec.{redirected};
 ghost use Rattle.rules.specs.Opening.{startsWith, goodBucket};
-ghost use Rattle.state.specs.View.{SpecFits};
+ghost use Rattle.redirect.specs.Detail.{redirectAt, Within};
+ghost use Rattle.redirect_reader.specs.Places.{PartFits, SeenFits, partIn, seenIn};
+ghost use Rattle.state.specs.View.{specOf, SpecFits};
 ghost use Rattle.connector.specs.View.{connectorOf};
-use bidi_write::Break;
-use bidi_write::Detail;
 use bidi_write::Offset;
-use bidi_write::Redirect;
 use bidi_write::Response;
 use bidi_write::Size;
+use redirect::Reading;
+use redirect::redirect_of;
+use redirect_reader::Part;
+use redirect_reader::Seen;
 use state::AppendObjectSpec;
 use state::MAX_BUCKET;
 use state::MAX_ROUTING_TOKEN;
@@ -67,25 +72,19 @@ impl Connector {
     }
 
     // A status with redirect detail is taken over for any code.
-    pub fn handle_redirect(mut self, b: Break, token: &[u8], handle: &[u8]) -> Connector
-        requires { ⌜ overlong (M.redirectIn (breakOf b (now token) (now handle))) ≡ false ⌝ }
-        ensures { λ r. ⌜ connectorOf r ≡ rerouted (M.redirectIn (breakOf b (now (token .entry)) (now (handle .entry)))) (connectorOf self) ⌝ }
+    pub fn handle_redirect(mut self, d: Reading, value: &[u8]) -> Connector
+        requires { ⌜ Within d (length (now value)) × (overlong (redirectAt d (now value)) ≡ false) ⌝ }
+        ensures { λ r. ⌜ connectorOf r ≡ rerouted (redirectAt d (now (value .entry))) (connectorOf self) ⌝ }
         ensures { λ r. ⌜ (SpecFits (self .spec) → SpecFits (r .spec)) ⌝ }
     {
-        match b {
-            Break::EndOfStream => self,
-            Break::Status(s) => {
-                let detail = s.detail;
-                match detail {
-                    Detail::Absent => self,
-                    Detail::Redirect(r) => {
-                        let spec = self.spec;
-                        self.spec = spec.handle_redirect(r, token, handle);
-                        self
-                    }
-                }
+        match d {
+            Reading::Absent => self,
+            Reading::Malformed => self,
+            Reading::Read(m) => {
+                let spec = self.spec;
+                self.spec = reroute(spec, m, value);
+                self
             }
-            Break::Error => self,
         }
     }
 
@@ -121,43 +120,62 @@ impl Connector {
     }
 
     // What a break of a live stream changes; dialling is the host's.
-    pub fn reconnect(self, b: Break, token: &[u8], handle: &[u8], persisted: Offset) -> Connector
-        requires { ⌜ overlong (M.redirectIn (breakOf b (now token) (now handle))) ≡ false ⌝ }
-        ensures { λ r. ⌜ connectorOf r ≡ attempted (M.isRedirect (breakOf b (now (token .entry)) (now (handle .entry)))) (progress (some (persisted .0)) (rerouted (M.redirectIn (breakOf b (now (token .entry)) (now (handle .entry)))) (connectorOf self))) ⌝ }
+    pub fn reconnect(self, d: Reading, value: &[u8], redirect: bool, persisted: Offset) -> Connector
+        requires { ⌜ Within d (length (now value)) × (overlong (redirectAt d (now value)) ≡ false) ⌝ }
+        ensures { λ r. ⌜ connectorOf r ≡ attempted redirect (progress (some (persisted .0)) (rerouted (redirectAt d (now (value .entry))) (connectorOf self))) ⌝ }
         ensures { λ r. ⌜ (SpecFits (self .spec) → SpecFits (r .spec)) ⌝ }
     {
-        self.handle_redirect(b, token, handle)
+        self.handle_redirect(d, value)
             .progress(Size::Stated(persisted))
-            .count_attempt(redirect::is_redirect(b))
+            .count_attempt(redirect)
     }
+}
+
+// Takes over what a redirect says, its token and handle from where they lie in the value.
+fn reroute(spec: AppendObjectSpec, m: Seen, value: &[u8]) -> AppendObjectSpec
+    requires { ⌜ SeenFits m (length (now value)) × (overlong (some (seenIn (now value) m)) ≡ false) ⌝ }
+    ensures { λ r. ⌜ specOf r ≡ redirected (seenIn (now (value .entry)) m) (specOf spec) ⌝ }
+    ensures { λ r. ⌜ (SpecFits spec → SpecFits r) ⌝ }
+{
+    let token = m.token;
+    let token_start = token.start;
+    let token_end = token_start + token.len;
+    let handle = m.handle;
+    let handle_start = handle.start;
+    let handle_end = handle_start + handle.len;
+    spec.handle_redirect(
+        redirect_of(m),
+        &value[token_start..token_end],
+        &value[handle_start..handle_end],
+    )
 }
 
 // Whether a redirect's token or handle is too long to keep.
-pub fn too_long(b: Break, token: &[u8], handle: &[u8]) -> bool
-    ensures { λ r. ⌜ r ≡ overlong (M.redirectIn (breakOf b (now (token .entry)) (now (handle .entry)))) ⌝ }
+pub fn too_long(d: Reading) -> bool
+    ensures { λ r. ⌜ ((value : M.Bytes) → Within d (length value) → r ≡ overlong (redirectAt d value)) ⌝ }
 {
-    match b {
-        Break::EndOfStream => false,
-        Break::Status(s) => {
-            let detail = s.detail;
-            match detail {
-                Detail::Absent => false,
-                Detail::Redirect(r) => redirect_too_long(r, token, handle),
+    match d {
+        Reading::Absent => false,
+        Reading::Malformed => false,
+        Reading::Read(m) => {
+            let token = m.token;
+            if part_over(token, MAX_ROUTING_TOKEN) {
+                return true;
             }
+            let handle = m.handle;
+            part_over(handle, MAX_WRITE_HANDLE)
         }
-        Break::Error => false,
     }
 }
 
-fn redirect_too_long(r: Redirect, token: &[u8], handle: &[u8]) -> bool
-    ensures { λ q. ⌜ q ≡ overlong (some (redirectOf r (now (token .entry)) (now (handle .entry)))) ⌝ }
+// Whether a part of a value is given, and has more bytes than the most.
+fn part_over(p: Part, most: usize) -> bool
+    ensures { λ r. ⌜ ((value : M.Bytes) → PartFits p (length value) → r ≡ M.over most (partIn value p)) ⌝ }
 {
-    let has_token = r.has_routing_token;
-    let has_handle = r.has_write_handle;
-    if over(has_token, token, MAX_ROUTING_TOKEN) {
-        return true;
+    if p.has {
+        return most < p.len;
     }
-    over(has_handle, handle, MAX_WRITE_HANDLE)
+    false
 }
 
 // Whether a response's handle is too long to keep.

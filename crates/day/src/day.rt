@@ -38,16 +38,10 @@ pub fn run(seed: u64, breaks: u64) -> World {
         let call = next.call;
         w = next.world;
         let data = rest(&event, w.bank.taken, w.bank.length);
-        let r = steps::step(
-            s,
-            call,
-            &mut store,
-            &mut table,
-            &mut out,
-            data,
-            b"token",
-            b"handle",
-        );
+        let whole = w.link.redirects % 2 == 0;
+        let detail = message::either(whole, &message::DETAIL, &message::DETAIL_IN_PARTS);
+        let bytes = message::beside(call, data, &message::HANDLE, detail);
+        let r = steps::step(s, call, &mut store, &mut table, &mut out, bytes);
         s = r.session;
         let answer = r.answer;
         w = world::heard(w, answer, &out, &mut message);
@@ -94,7 +88,7 @@ fn open(store: &mut [u8], table: &mut [u64]) -> Opened {
         b"journal",
         none,
         none,
-        b"handle",
+        &message::HANDLE,
         none,
     )
 }

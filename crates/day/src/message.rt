@@ -9,11 +9,10 @@ use crate::server::RESOURCE;
 use crate::server::SIZE;
 use crate::server::Said;
 use bidi_write::Break;
+use bidi_write::Call;
 use bidi_write::Detail;
 use bidi_write::Generation;
-use bidi_write::NewGeneration;
 use bidi_write::Offset;
-use bidi_write::Redirect;
 use bidi_write::Resource;
 use bidi_write::Response;
 use bidi_write::Status;
@@ -26,6 +25,15 @@ const ABORTED_CODE: u32 = 10;
 
 // Of the day's object.
 const GENERATION: i64 = 7;
+
+pub const HANDLE: [u8; 6] = *b"handle";
+
+// The value of a redirect's detail, as two servers write it: token `token`, the handle, the generation. The second has an unknown field first, writes the
+// generation before the rest, the token twice, and the handle in two messages, of which the last has an unknown field alone.
+pub const DETAIL: [u8; 19] = *b"\x0a\x05token\x12\x08\x0a\x06handle\x18\x07";
+
+pub const DETAIL_IN_PARTS: [u8; 33] =
+    *b"\x22\x03new\x18\x07\x12\x08\x0a\x06handle\x0a\x03old\x12\x02\x10\x01\x0a\x05token";
 
 pub fn response(m: Said) -> Response {
     Response {
@@ -64,8 +72,8 @@ pub fn stream_break(kind: u64) -> Break {
         ERROR => Break::Error,
         STATUS => status(UNAVAILABLE_CODE, Detail::Absent),
         ABORTED => status(ABORTED_CODE, Detail::Absent),
-        REROUTED => status(UNAVAILABLE_CODE, detail()),
-        _ => status(ABORTED_CODE, detail()),
+        REROUTED => status(UNAVAILABLE_CODE, Detail::Redirect),
+        _ => status(ABORTED_CODE, Detail::Redirect),
     }
 }
 
@@ -73,10 +81,20 @@ fn status(code: u32, detail: Detail) -> Break {
     Break::Status(Status { code, detail })
 }
 
-fn detail() -> Detail {
-    Detail::Redirect(Redirect {
-        has_routing_token: true,
-        has_write_handle: true,
-        generation: NewGeneration::Given(Generation(GENERATION)),
-    })
+// The bytes that a call brings.
+pub fn beside<'a>(call: Call, data: &'a [u8], handle: &'a [u8], detail: &'a [u8]) -> &'a [u8] {
+    match call {
+        Call::Append => data,
+        Call::Response(_) => handle,
+        Call::Handshake(_) => handle,
+        _ => detail,
+    }
+}
+
+// One of two details.
+pub fn either<'a>(first: bool, a: &'a [u8], b: &'a [u8]) -> &'a [u8] {
+    if first {
+        return a;
+    }
+    b
 }

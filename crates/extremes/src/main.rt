@@ -144,7 +144,7 @@ fn letter(calls: &[u8], left: usize) -> u8 {
 }
 
 fn turn(s: Session, store: &mut [u8], table: &mut [u64], out: &mut [u8], c: u8) -> Session {
-    let r = steps::step(s, call_of(c), store, table, out, b"a", b"", b"");
+    let r = steps::step(s, call_of(c), store, table, out, b"a");
     let a = r.answer;
     say(bench_lines::line(mark_of(c), a));
     r.session

@@ -83,11 +83,11 @@ pub fn handshake(s: Session, store: &[u8], table: &mut [u64], m: Response, handl
     }
 }
 
-pub fn stream_break(s: Session, b: Break, token: &[u8], handle: &[u8]) -> Outcome
-    ensures { λ r. ⌜ Promised (R.break (breakOf b (now (token .entry)) (now (handle .entry)))) s r ⌝ }
+pub fn stream_break(s: Session, b: Break, detail: &[u8]) -> Outcome
+    ensures { λ r. ⌜ Promised (R.break (breakOf b (now (detail .entry)))) s r ⌝ }
 {
     let mut t = s;
-    let a = session::stream_break(&mut t, b, token, handle);
+    let a = session::stream_break(&mut t, b, detail);
     Outcome {
         session: t,
         answer: a,
@@ -105,11 +105,11 @@ pub fn judge(s: Session, verdict: u8) -> Outcome
     }
 }
 
-pub fn failed_attempt(s: Session, b: Break, token: &[u8], handle: &[u8], verdict: u8) -> Outcome
-    ensures { λ r. ⌜ Promised (R.failedAttempt (breakOf b (now (token .entry)) (now (handle .entry))) verdict) s r ⌝ }
+pub fn failed_attempt(s: Session, b: Break, detail: &[u8], verdict: u8) -> Outcome
+    ensures { λ r. ⌜ Promised (R.failedAttempt (breakOf b (now (detail .entry))) verdict) s r ⌝ }
 {
     let mut t = s;
-    let a = session::failed_attempt(&mut t, b, token, handle, verdict);
+    let a = session::failed_attempt(&mut t, b, detail, verdict);
     Outcome {
         session: t,
         answer: a,

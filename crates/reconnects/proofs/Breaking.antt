@@ -18,6 +18,8 @@ use Rattle.rules.specs.Step.{step}
 use Rattle.bidi_write.specs.View.{causeOf}
 use Rattle.bidi_write.specs.declared.Cause.{Cause}
 use Rattle.bidi_write.specs.declared.Cause.the-variants as cause
+use Rattle.redirect.specs.Detail.{redirectAt, ReadsDetail}
+use Rattle.redirect.specs.declared.Reading.{Reading}
 use Rattle.state.specs.View.{SpecFits}
 use Rattle.connector.specs.View.{connectorOf}
 use Rattle.connector.specs.declared.Connector.{Connector}
@@ -44,6 +46,7 @@ use Rattle.transport.proofs.Refused.{refusal}
 use Rattle.transport.proofs.First.{over-first, first-free}
 use Rattle.transport.proofs.Numbers.{complete-is}
 use Rattle.transport.proofs.Views.{runs, valid-renewed}
+use Rattle.reconnects.proofs.Detail.{rerouted-as}
 use Rattle.reconnects.proofs.Following.{promise, ended, rerouted-keeps}
 
 -- ---- a break follows no redirect, and progress starts anew
@@ -62,6 +65,10 @@ attempted-keeps false c = refl
 -- the connector after a break, as the rules have it
 abbrev pub reconnected : M.Break → ℤ → R.Connector → R.Connector
 reconnected b n c = attempted (M.isRedirect b) (progress (some n) (rerouted (M.redirectIn b) c))
+
+pub reconnected-as : {d : Reading} {b : M.Break} {value : Bytes} → ReadsDetail d b value → {t : Bool} → t ≡ M.isRedirect b → (n : ℤ) (c : R.Connector) {x : R.Connector}
+    → x ≡ attempted t (progress (some n) (rerouted (redirectAt d value) c)) → x ≡ reconnected b n c
+reconnected-as reads t-is n c e = e ∙ ap₂ (λ (t : Bool) (k : R.Connector). attempted t (progress (some n) k)) t-is (rerouted-as reads c)
 
 reconnected-low : (b : M.Break) (n : ℤ) (d c : Connector) → connectorOf d ≡ reconnected b n (connectorOf c) → d .«redirects_followed» ≤ c .«redirects_followed»
 unfolding connectorOf
@@ -84,16 +91,16 @@ second : (t : Bool) (x y : R.Result) → t ≡ false → R.choose t x y ≡ y
 unfolding R.choose
 second t x y e = rw e refl
 
-abbrev breakTests : ℕ → Bool → Check
-breakTests n long = checked (breakRows n long)
+abbrev breakTests : ℕ → Bool → Bool → Check
+breakTests n malformed long = checked (breakRows n malformed long)
 
 -- where the code goes on, no token or handle is too long
-pub break-short : (n : ℕ) (long : Bool) → breakTests n long ≡ check.Go → long ≡ false
-break-short n long e = first-false long _ _ (later _ _ _ (later _ _ _ e))
+pub break-short : (n : ℕ) (malformed long : Bool) → breakTests n malformed long ≡ check.Go → long ≡ false
+break-short n malformed long e = first-false long _ _ (later _ _ _ (later _ _ _ (later _ _ _ e)))
 
 module _ (b : M.Break) (v : R.Session) where
   abbrev RuleTests : Check → Type 0
-  RuleTests o = breakTests (R.phaseNumber (v .phase)) (overlong (M.redirectIn b)) ≡ o
+  RuleTests o = breakTests (R.phaseNumber (v .phase)) (M.isMalformed b) (overlong (M.redirectIn b)) ≡ o
 
   rule-refuses : (x : Refusal) → RuleTests (check.Refuse x) → step (R.break b) v ≡ R.answers (R.refused (numberOf x)) v
   unfolding step breaks R.unless
@@ -119,18 +126,18 @@ module _ (b : M.Break) (v : R.Session) where
 -- ---- the call
 
 module _ (s : Session) (store : Bytes) (table : List ℕ) (out : Bytes) (n : ℕ) (phase-is : n ≡ R.phaseNumber (phaseOf (s .phase))) (b : M.Break)
-    (long : Bool) (long-is : long ≡ overlong (M.redirectIn b)) where
-  at-view : (o : Check) → breakTests n long ≡ o → RuleTests b (view s store table) o
+    (malformed : Bool) (malformed-is : malformed ≡ M.isMalformed b) (long : Bool) (long-is : long ≡ overlong (M.redirectIn b)) where
+  at-view : (o : Check) → breakTests n malformed long ≡ o → RuleTests b (view s store table) o
   unfolding view
-  at-view o e = rw (sym phase-is, sym long-is) e
+  at-view o e = rw (sym phase-is, sym malformed-is, sym long-is) e
 
-  pub break-refuses : (x : Refusal) → breakTests n long ≡ check.Refuse x
+  pub break-refuses : (x : Refusal) → breakTests n malformed long ≡ check.Refuse x
       → Promise (R.break b) s store table out (record { session = s; answer = answer.Refused x }) store table out
   break-refuses x e =
       refusal (R.break b) s store table out x (first-free (R.break b) s store table refl refl (λ f. over-first _ x _ e (ap (λ (k : ℕ). eqb k 6) phase-is ∙ f)))
       (λ _. rule-refuses b (view s store table) x (at-view (check.Refuse x) e))
 
-  module _ (go : breakTests n long ≡ check.Go) (complete : Bool) (complete-means : complete ≡ (s .worker .finalized && eqb (s .worker .«pending_requests» .count) 0)) where
+  module _ (go : breakTests n malformed long ≡ check.Go) (complete : Bool) (complete-means : complete ≡ (s .worker .finalized && eqb (s .worker .«pending_requests» .count) 0)) where
     goes-first : {r : Outcome} → First (R.break b) s store table out r store table out
     goes-first = first-free (R.break b) s store table refl refl (λ f. clash f (runs s n phase-is _ _ go))
 

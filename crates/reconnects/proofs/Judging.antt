@@ -116,12 +116,12 @@ module _ (s : Session) (redirect : Bool) (verdict : ℕ) (d : Connector)
 abbrev judgeTests : ℕ → Bool → Check
 judgeTests n valid = checked (judgeRows n valid)
 
-abbrev failTests : ℕ → Bool → Bool → Check
-failTests n valid long = checked (failRows n valid long)
+abbrev failTests : ℕ → Bool → Bool → Bool → Check
+failTests n valid malformed long = checked (failRows n valid malformed long)
 
 -- where the code goes on, no token or handle is too long
-pub fail-short : (n : ℕ) (valid long : Bool) → failTests n valid long ≡ check.Go → long ≡ false
-fail-short n valid long e = first-false long _ _ (later _ _ _ (later _ _ _ (later _ _ _ e)))
+pub fail-short : (n : ℕ) (valid malformed long : Bool) → failTests n valid malformed long ≡ check.Go → long ≡ false
+fail-short n valid malformed long e = first-false long _ _ (later _ _ _ (later _ _ _ (later _ _ _ (later _ _ _ e))))
 
 module _ (verdict : ℕ) (v : R.Session) where
   judge-refused : (x : Refusal) → judgeTests (R.phaseNumber (v .phase)) (not (noVerdict verdict)) ≡ check.Refuse x
@@ -134,12 +134,12 @@ module _ (verdict : ℕ) (v : R.Session) where
   judge-passed e = passed v _ _ (rw (Bool·not-not (noVerdict verdict)) at e)
 
   module _ (b : M.Break) where
-    fail-refused : (x : Refusal) → failTests (R.phaseNumber (v .phase)) (not (noVerdict verdict)) (overlong (M.redirectIn b)) ≡ check.Refuse x
+    fail-refused : (x : Refusal) → failTests (R.phaseNumber (v .phase)) (not (noVerdict verdict)) (M.isMalformed b) (overlong (M.redirectIn b)) ≡ check.Refuse x
         → step (R.failedAttempt b verdict) v ≡ R.answers (R.refused (numberOf x)) v
     unfolding step fails R.unless
     fail-refused x e = refused v _ x _ (rw (Bool·not-not (noVerdict verdict)) at e)
 
-    fail-passed : failTests (R.phaseNumber (v .phase)) (not (noVerdict verdict)) (overlong (M.redirectIn b)) ≡ check.Go
+    fail-passed : failTests (R.phaseNumber (v .phase)) (not (noVerdict verdict)) (M.isMalformed b) (overlong (M.redirectIn b)) ≡ check.Go
         → step (R.failedAttempt b verdict) v
         ≡ judged (M.isRedirect b) verdict (R.setWorker (R.setConnector (rerouted (M.redirectIn b) (v .worker .connector)) (v .worker)) v)
     unfolding step fails R.unless
@@ -165,14 +165,14 @@ module _ (s : Session) (n verdict : ℕ) (phase-is : n ≡ R.phaseNumber (phaseO
         promise (R.judge verdict) _ s store table out r (first-free (R.judge verdict) s store table refl refl (λ g. clash g (runs s n phase-is _ _ e)))
         (f (runs s n phase-is _ _ e)) (λ _. sym (judge-passed verdict (view s store table) (judge-at check.Go e)))
 
-  module _ (b : M.Break) (long : Bool) (long-is : long ≡ overlong (M.redirectIn b)) where
+  module _ (b : M.Break) (malformed : Bool) (malformed-is : malformed ≡ M.isMalformed b) (long : Bool) (long-is : long ≡ overlong (M.redirectIn b)) where
     module _ (store : Bytes) (table : List ℕ) (out : Bytes) where
-      fail-at : (o : Check) → failTests n valid long ≡ o
-          → failTests (R.phaseNumber (view s store table .phase)) (not (noVerdict verdict)) (overlong (M.redirectIn b)) ≡ o
+      fail-at : (o : Check) → failTests n valid malformed long ≡ o
+          → failTests (R.phaseNumber (view s store table .phase)) (not (noVerdict verdict)) (M.isMalformed b) (overlong (M.redirectIn b)) ≡ o
       unfolding view
-      fail-at o e = rw (sym phase-is, sym valid-is, sym long-is) e
+      fail-at o e = rw (sym phase-is, sym valid-is, sym malformed-is, sym long-is) e
 
-      pub fail-refuses : (x : Refusal) → failTests n valid long ≡ check.Refuse x
+      pub fail-refuses : (x : Refusal) → failTests n valid malformed long ≡ check.Refuse x
           → Promise (R.failedAttempt b verdict) s store table out (record { session = s; answer = answer.Refused x }) store table out
       fail-refuses x e =
           refusal (R.failedAttempt b verdict) s store table out x
@@ -180,7 +180,7 @@ module _ (s : Session) (n verdict : ℕ) (phase-is : n ≡ R.phaseNumber (phaseO
           (λ _. fail-refused verdict (view s store table) b x (fail-at (check.Refuse x) e))
 
       -- d is the connector with the redirect taken over
-      pub fail-goes : (d : Connector) (r : Outcome) → failTests n valid long ≡ check.Go
+      pub fail-goes : (d : Connector) (r : Outcome) → failTests n valid malformed long ≡ check.Go
           → connectorOf d ≡ rerouted (M.redirectIn b) (connectorOf (s .worker .connector))
           → (SpecFits (s .worker .connector .spec) → SpecFits (d .spec))
           → (R.isEnded (phaseOf (s .phase)) ≡ false

@@ -1,3 +1,4 @@
+pub mod Detail
 pub mod Following
 pub mod Judging
 pub mod Breaking

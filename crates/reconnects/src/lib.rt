@@ -15,7 +15,9 @@ use bidi_write::Cause;
 use bidi_write::Check;
 use connector::Connector;
 use connector::too_long;
+use redirect::is_malformed;
 use redirect::is_redirect;
+use redirect::read_detail;
 use retry_redirect::RetryResult;
 use retry_redirect::is_verdict;
 use retry_redirect::on_error;
@@ -31,14 +33,14 @@ use worker::is_complete;
 
 // ---- break
 
-// The bytes of a redirect's token and handle come beside the break.
-pub fn stream_break(s: Session, b: Break, token: &[u8], handle: &[u8]) -> Outcome
-    ensures { λ r. ⌜ Promised (R.break (breakOf b (now (token .entry)) (now (handle .entry)))) s r ⌝ }
+// The value of a redirect's detail, as received, comes beside the break.
+pub fn stream_break(s: Session, b: Break, detail: &[u8]) -> Outcome
+    ensures { λ r. ⌜ Promised (R.break (breakOf b (now (detail .entry)))) s r ⌝ }
 {
     let p = s.phase;
     let phase = phase_number(p);
-    let long = too_long(b, token, handle);
-    let way = admission::stream_break(phase, long);
+    let d = read_detail(b, detail);
+    let way = admission::stream_break(phase, is_malformed(d), too_long(d));
     match way {
         Check::Refuse(x) => Outcome {
             session: s,
@@ -55,15 +57,16 @@ pub fn stream_break(s: Session, b: Break, token: &[u8], handle: &[u8]) -> Outcom
             }
             let connector = w.connector;
             let persisted = w.persisted_size;
-            let c = connector.reconnect(b, token, handle, persisted);
-            await_verdict(s, c, is_redirect(b))
+            let redirect = is_redirect(b);
+            let c = connector.reconnect(d, detail, redirect, persisted);
+            await_verdict(s, c, redirect)
         }
     }
 }
 
 // Closing: "an end of stream finishes, dropping waiters; another break ends with a stream error".
 fn closing_cause(b: Break) -> Cause
-    ensures { λ r. ⌜ ((token handle : M.Bytes) → causeOf r ≡ cond (M.isEnd (breakOf b token handle)) R.finished R.streamError) ⌝ }
+    ensures { λ r. ⌜ ((detail : M.Bytes) → causeOf r ≡ cond (M.isEnd (breakOf b detail)) R.finished R.streamError) ⌝ }
 {
     match b {
         Break::EndOfStream => Cause::Finished,
@@ -128,14 +131,14 @@ fn is_on_redirect(p: Phase) -> bool
     }
 }
 
-pub fn failed_attempt(s: Session, b: Break, token: &[u8], handle: &[u8], verdict: u8) -> Outcome
-    ensures { λ r. ⌜ Promised (R.failedAttempt (breakOf b (now (token .entry)) (now (handle .entry))) verdict) s r ⌝ }
+pub fn failed_attempt(s: Session, b: Break, detail: &[u8], verdict: u8) -> Outcome
+    ensures { λ r. ⌜ Promised (R.failedAttempt (breakOf b (now (detail .entry))) verdict) s r ⌝ }
 {
     let p = s.phase;
     let phase = phase_number(p);
     let valid = is_verdict(verdict);
-    let long = too_long(b, token, handle);
-    let way = admission::failed_attempt(phase, valid, long);
+    let d = read_detail(b, detail);
+    let way = admission::failed_attempt(phase, valid, is_malformed(d), too_long(d));
     match way {
         Check::Refuse(x) => Outcome {
             session: s,
@@ -145,7 +148,7 @@ pub fn failed_attempt(s: Session, b: Break, token: &[u8], handle: &[u8], verdict
             let n = s.sent;
             let w = s.worker;
             let connector = w.connector;
-            let rerouted = connector.handle_redirect(b, token, handle);
+            let rerouted = connector.handle_redirect(d, detail);
             let after = w.set_connector(rerouted);
             let t = renew(s, after, p, n);
             on_verdict(t, is_redirect(b), verdict)

@@ -9,9 +9,9 @@ use native.Mathlib.Omega.{arith}
 use lib.ListN.{length, getElem?}
 use lib.Dec.{ltb, eqb, leb·suc-suc}
 use borrow.Author.Tests.{ltb-true, ltb-false, lt-ltb, le-ltb, not-false}
-use Rattle.rules.specs.Message.{Bytes}
+use Rattle.rules.specs.Message.{Bytes, isGiven}
 use Rattle.rules.specs.Session as R
-use Rattle.rules.specs.Replay.{place, given, handsChunk, hands}
+use Rattle.rules.specs.Replay.{place, handsChunk, hands}
 use Rattle.rules.specs.Step.{step}
 use Rattle.worker.proofs.Waiters.{element-past}
 use Rattle.bidi_write.specs.Refusal.{numberOf}
@@ -41,7 +41,7 @@ nextTests n short = checked (nextRows n short)
 
 -- the rule's last test
 abbrev short : ℕ → R.Session → Bool
-short out v = given (getElem? (R.chunks v) (place (v .phase))) && R.shortOut out v
+short out v = isGiven (getElem? (R.chunks v) (place (v .phase))) && R.shortOut out v
 
 rule-refuses : (out : ℕ) (v : R.Session) (x : Refusal) → nextTests (R.phaseNumber (v .phase)) (short out v) ≡ check.Refuse x
     → step (R.nextRequest out) v ≡ R.answers (R.refused (numberOf x)) v
@@ -78,7 +78,7 @@ in-replay (phase.Replay c) e = refl
 in-replay (phase.Ended c) e = clash e refl
 
 -- an element is given below the length
-given-is : {A : Type 0} (l : List A) (i : ℕ) → given (getElem? l i) ≡ ltb i (length l)
+given-is : {A : Type 0} (l : List A) (i : ℕ) → isGiven (getElem? l i) ≡ ltb i (length l)
 given-is [] i = sym (le-ltb i 0 (omega arith))
 given-is (x ∷ l) zero = sym (lt-ltb 0 (suc (length l)) (omega arith))
 given-is (x ∷ l) (suc i) = given-is l i ∙ sym (leb·suc-suc (suc i) (length l))
@@ -103,7 +103,7 @@ module _ (s : Session) (store : Bytes) (table : List ℕ) (out : Bytes) (n : ℕ
   short-is v =
       ap (λ (t : Bool). t && short-out)
       (ap (ltb (at .next)) (sym (chunks-are s store table v)) ∙ sym (given-is (R.chunks (view s store table)) (at .next))
-      ∙ ap (λ (i : ℕ). given (getElem? (R.chunks (view s store table)) i)) (sym place-at))
+      ∙ ap (λ (i : ℕ). isGiven (getElem? (R.chunks (view s store table)) i)) (sym place-at))
 
   at-view : (o : Check) → nextTests n (more && short-out) ≡ o → Valid s store table
       → nextTests (R.phaseNumber ((view s store table) .phase)) (short (length out) (view s store table)) ≡ o

@@ -1,49 +1,55 @@
--- "A refused call changes nothing", and it gives a number that the table has for calls: 4 or 6 to 13.
-use mathlib.Core.Path.{_≡_, refl}
-use mathlib.Core.Bool.{Bool, true, _&&_, _||_}
+-- "A refused call changes nothing", and it gives a number that the tables have for it: 4, 6 to 13, and 15 where it brings a detail. 15 it gives
+-- exactly where that is malformed.
+use mathlib.Core.Path.{_≡_, refl, sym, _∙_}
+use mathlib.Core.Bool.{Bool, true, false, not, _&&_, _||_}
 use mathlib.Core.Option.{Option, none, some}
 use mathlib.Core.List.{List, [], _∷_}
 use Prim.Native.Nat.{ℕ, _-_}
 use lib.ListN.{length, getElem?}
 use lib.IntN.{ℤ}
 use lib.Dec.{leb, eqb}
-use Rattle.rules.specs.Session.{ReplayChunk, PendingRequest, Cause, Session, Call, append, flush, finalise, nextRequest, close, sendFailed, response, handshake, break, judge, failedAttempt, refused, Result, chunks, waiters, unless, ending}
+use borrow.Author.Tests.{eqb-true}
+use Rattle.rules.specs.Session.{ReplayChunk, PendingRequest, Cause, finished, Phase, live, closing, connecting, verdict, replay, ended, Session, Call, append, flush, finalise, nextRequest, close, sendFailed, response, handshake, break, judge, failedAttempt, Answer, refused, took, sends, waits, completes, attempt, ok, done, ends, refusedWith, Result, isLive, isConnecting, isClosing, isEnded, chunks, waiters, choose, unless, ending}
+use Rattle.rules.specs.Message.{Break, isMalformed}
 use Rattle.rules.specs.Upload.{appends, asks, closes}
 use Rattle.rules.specs.Respond.{takes, lastStep, responds, toReplay, shakes}
-use Rattle.rules.specs.Reconnect.{breaks, ruled, judges, fails}
+use Rattle.rules.specs.Reconnect.{breaks, ruled, noVerdict, judges, fails, unreadable}
 use Rattle.rules.specs.Replay.{handsWaiter, handsChunk, hands, unsent}
 use Rattle.rules.specs.Step.{step}
 use Rattle.rules.specs.Notes.{accepted}
-use Rattle.rules.proofs.Tests.{and-left, and-right}
+use Rattle.rules.proofs.Tests.{never, and-left, and-right}
 use Rattle.rules.proofs.Lists.{cond-ind, choose-ind}
 
-abbrev pub inTable : ℕ → Bool
-inTable n = eqb n 4 || (leb 6 n && leb n 13)
+abbrev pub bringsDetail : Call → Bool
+bringsDetail = elim [ break b ↦ true | failedAttempt b v ↦ true | append d out ↦ false | flush out ↦ false | finalise out ↦ false | nextRequest out ↦ false | close ↦ false | sendFailed ↦ false | response m ↦ false | handshake m ↦ false | judge v ↦ false ]
 
-abbrev numbered : List (Bool × ℕ) → Bool
-numbered [] = true
-numbered (t ∷ ts) = inTable (t .1) && numbered ts
+abbrev pub inTable : Bool → ℕ → Bool
+inTable detail n = eqb n 4 || (leb 6 n && leb n 13) || (detail && eqb n 15)
+
+abbrev numbered : Bool → List (Bool × ℕ) → Bool
+numbered detail [] = true
+numbered detail (t ∷ ts) = inTable detail (t .1) && numbered detail ts
 
 record Went (r : Result) : Type 0 where
   went : accepted (r .answer) ≡ true
 
-record Refusing (s : Session) (r : Result) : Type 0 where
+record Refusing (detail : Bool) (s : Session) (r : Result) : Type 0 where
   keeps : (n : ℕ) → r .answer ≡ refused n → r .session ≡ s
-  number : (n : ℕ) → r .answer ≡ refused n → inTable n ≡ true
+  number : (n : ℕ) → r .answer ≡ refused n → inTable detail n ≡ true
 
-went-refusing : (s : Session) (r : Result) → Went r → Refusing s r
-went-refusing s r h = record {
+went-refusing : (detail : Bool) (s : Session) (r : Result) → Went r → Refusing detail s r
+went-refusing detail s r h = record {
   keeps = λ n e. let a : accepted (r .answer) ≡ true = h .went in cc;
   number = λ n e. let a : accepted (r .answer) ≡ true = h .went in cc;
 }
 
-unless-refusing : (s : Session) (rows : List (Bool × ℕ)) (r : Result) → numbered rows ≡ true → Went r → Refusing s (unless s rows r)
+unless-refusing : (detail : Bool) (s : Session) (rows : List (Bool × ℕ)) (r : Result) → numbered detail rows ≡ true → Went r → Refusing detail s (unless s rows r)
 unfolding unless
-unless-refusing s [] r e h = went-refusing s r h
-unless-refusing s (t ∷ ts) r e h =
-    cond-ind (Refusing s) (t .0)
-    (λ a. record { keeps = λ n f. refl; number = λ n f. let g : inTable (t .1) ≡ true = and-left _ _ e in cc })
-    (λ a. unless-refusing s ts r (and-right (inTable (t .1)) _ e) h)
+unless-refusing detail s [] r e h = went-refusing detail s r h
+unless-refusing detail s (t ∷ ts) r e h =
+    cond-ind (Refusing detail s) (t .0)
+    (λ a. record { keeps = λ n f. refl; number = λ n f. let g : inTable detail (t .1) ≡ true = and-left _ _ e in cc })
+    (λ a. unless-refusing detail s ts r (and-right (inTable detail (t .1)) _ e) h)
 
 -- ---- past its refusals a call is accepted
 
@@ -79,24 +85,117 @@ unfolding handsChunk
 chunk-went none i s = waiter-went (getElem? (waiters s) (i - length (chunks s))) i s
 chunk-went (some c) i s = record { went = refl }
 
-step-refusing : (c : Call) (s : Session) → Refusing s (step c s)
+break-went : (a b : Bool) (c : Cause) (s : Session) (r : Result) → Went r → Went (choose a (ending finished 0 s) (choose b (ending c 0 s) r))
+break-went a b c s r h = choose-ind Went _ _ _ (λ e. ending-went _ 0 s) (λ e. choose-ind Went _ _ _ (λ f. ending-went c 0 s) (λ f. h))
+
+step-refusing : (c : Call) (s : Session) → Refusing (bringsDetail c) s (step c s)
 unfolding step appends asks hands closes unsent responds shakes breaks judges fails
 step-refusing (append [] out) s = record { keeps = λ n e. refl; number = λ n e. cc }
-step-refusing (append (x ∷ d) out) s = unless-refusing s _ _ refl (choose-ind Went _ _ _ (λ e. record { went = refl }) (λ e. record { went = refl }))
-step-refusing (flush out) s = unless-refusing s _ _ refl (choose-ind Went _ _ _ (λ e. record { went = refl }) (λ e. record { went = refl }))
-step-refusing (finalise out) s = unless-refusing s _ _ refl (choose-ind Went _ _ _ (λ e. record { went = refl }) (λ e. record { went = refl }))
-step-refusing (nextRequest out) s = unless-refusing s _ _ refl (chunk-went _ _ s)
-step-refusing close s = unless-refusing s _ _ refl (record { went = refl })
-step-refusing sendFailed s = unless-refusing s _ _ refl (record { went = refl })
-step-refusing (response m) s = unless-refusing s _ _ refl (takes-went _ _ _ lastStep last-went)
-step-refusing (handshake m) s = unless-refusing s _ _ refl (takes-went _ _ _ toReplay replay-went)
-step-refusing (break b) s =
-    unless-refusing s _ _ refl (choose-ind Went _ _ _ (λ e. ending-went _ 0 s) (λ e. choose-ind Went _ _ _ (λ f. ending-went _ 0 s) (λ f. record { went = refl })))
-step-refusing (judge v) s = unless-refusing s _ _ refl (ruled-went _ _)
-step-refusing (failedAttempt b v) s = unless-refusing s _ _ refl (ruled-went _ _)
+step-refusing (append (x ∷ d) out) s = unless-refusing false s _ _ refl (choose-ind Went _ _ _ (λ e. record { went = refl }) (λ e. record { went = refl }))
+step-refusing (flush out) s = unless-refusing false s _ _ refl (choose-ind Went _ _ _ (λ e. record { went = refl }) (λ e. record { went = refl }))
+step-refusing (finalise out) s = unless-refusing false s _ _ refl (choose-ind Went _ _ _ (λ e. record { went = refl }) (λ e. record { went = refl }))
+step-refusing (nextRequest out) s = unless-refusing false s _ _ refl (chunk-went _ _ s)
+step-refusing close s = unless-refusing false s _ _ refl (record { went = refl })
+step-refusing sendFailed s = unless-refusing false s _ _ refl (record { went = refl })
+step-refusing (response m) s = unless-refusing false s _ _ refl (takes-went _ _ _ lastStep last-went)
+step-refusing (handshake m) s = unless-refusing false s _ _ refl (takes-went _ _ _ toReplay replay-went)
+step-refusing (break b) s = unless-refusing true s _ _ refl (break-went _ _ _ s _ (record { went = refl }))
+step-refusing (judge v) s = unless-refusing false s _ _ refl (ruled-went _ _)
+step-refusing (failedAttempt b v) s = unless-refusing true s _ _ refl (ruled-went _ _)
 
 pub refused-changes-nothing : (c : Call) (s : Session) (n : ℕ) → (step c s) .answer ≡ refused n → (step c s) .session ≡ s
 refused-changes-nothing c s = (step-refusing c s) .keeps
 
-pub only-table-numbers : (c : Call) (s : Session) (n : ℕ) → (step c s) .answer ≡ refused n → inTable n ≡ true
+pub only-table-numbers : (c : Call) (s : Session) (n : ℕ) → (step c s) .answer ≡ refused n → inTable (bringsDetail c) n ≡ true
 only-table-numbers c s = (step-refusing c s) .number
+
+-- ---- 15
+
+goes-on : (n : ℕ) (a : Answer) → accepted a ≡ true → refusedWith n a ≡ false
+goes-on n (refused k) e = never (sym e)
+goes-on n (took k r) e = refl
+goes-on n (sends r) e = refl
+goes-on n (waits r k) e = refl
+goes-on n (completes k r) e = refl
+goes-on n (attempt k) e = refl
+goes-on n ok e = refl
+goes-on n done e = refl
+goes-on n (ends c k f) e = refl
+
+-- where the table has no 15
+other-number : (a : Answer) → ((n : ℕ) → a ≡ refused n → inTable false n ≡ true) → refusedWith 15 a ≡ false
+other-number (refused k) h = at (eqb k 15) refl
+  where
+    at : (t : Bool) → eqb k 15 ≡ t → t ≡ false
+    at true e = let same : k ≡ 15 = eqb-true k 15 e in never (sym (rw same at (h k refl)))
+    at false e = refl
+other-number (took k r) h = refl
+other-number (sends r) h = refl
+other-number (waits r k) h = refl
+other-number (completes k r) h = refl
+other-number (attempt k) h = refl
+other-number ok h = refl
+other-number done h = refl
+other-number (ends c k f) h = refl
+
+-- the tests of a break, and of a failed attempt, in their order
+of-break : (over phase malformed long : Bool) (s : Session) (r : Result) → Went r
+    → refusedWith 15 ((unless s ((over, 7) ∷ (phase, 6) ∷ (malformed, 15) ∷ (long, 4) ∷ []) r) .answer) ≡ (not over && not phase && malformed)
+unfolding unless
+of-break true phase malformed long s r h = refl
+of-break false true malformed long s r h = refl
+of-break false false true long s r h = refl
+of-break false false false true s r h = refl
+of-break false false false false s r h = goes-on 15 (r .answer) (h .went)
+
+of-attempt : (over phase bad malformed long : Bool) (s : Session) (r : Result) → Went r
+    → refusedWith 15 ((unless s ((over, 7) ∷ (phase, 6) ∷ (bad, 13) ∷ (malformed, 15) ∷ (long, 4) ∷ []) r) .answer)
+    ≡ (not over && not phase && not bad && malformed)
+unfolding unless
+of-attempt true phase bad malformed long s r h = refl
+of-attempt false true bad malformed long s r h = refl
+of-attempt false false true malformed long s r h = refl
+of-attempt false false false true long s r h = refl
+of-attempt false false false false true s r h = refl
+of-attempt false false false false false s r h = goes-on 15 (r .answer) (h .went)
+
+streaming : (p : Phase) (malformed : Bool)
+    → (not (isEnded p) && not (not (isLive p || isClosing p)) && malformed) ≡ ((isLive p || isClosing p) && malformed)
+streaming live m = refl
+streaming closing m = refl
+streaming connecting m = refl
+streaming (verdict r) m = refl
+streaming (replay i) m = refl
+streaming (ended c) m = refl
+
+dialling : (p : Phase) (bad malformed : Bool)
+    → (not (isEnded p) && not (not (isConnecting p)) && not bad && malformed) ≡ (isConnecting p && not bad && malformed)
+dialling live b m = refl
+dialling closing b m = refl
+dialling connecting b m = refl
+dialling (verdict r) b m = refl
+dialling (replay i) b m = refl
+dialling (ended c) b m = refl
+
+break-exactly : (b : Break) (s : Session) → refusedWith 15 ((step (break b) s) .answer) ≡ unreadable (break b) s
+unfolding step breaks
+break-exactly b s =
+    of-break (isEnded (s .phase)) _ (isMalformed b) _ s _ (break-went _ _ _ s _ (record { went = refl })) ∙ streaming (s .phase) (isMalformed b)
+
+attempt-exactly : (b : Break) (v : ℕ) (s : Session) → refusedWith 15 ((step (failedAttempt b v) s) .answer) ≡ unreadable (failedAttempt b v) s
+unfolding step fails
+attempt-exactly b v s =
+    of-attempt (isEnded (s .phase)) _ (noVerdict v) (isMalformed b) _ s _ (ruled-went _ _) ∙ dialling (s .phase) (noVerdict v) (isMalformed b)
+
+pub malformed-exactly : (c : Call) (s : Session) → refusedWith 15 ((step c s) .answer) ≡ unreadable c s
+malformed-exactly (append d out) s = other-number _ (only-table-numbers (append d out) s)
+malformed-exactly (flush out) s = other-number _ (only-table-numbers (flush out) s)
+malformed-exactly (finalise out) s = other-number _ (only-table-numbers (finalise out) s)
+malformed-exactly (nextRequest out) s = other-number _ (only-table-numbers (nextRequest out) s)
+malformed-exactly close s = other-number _ (only-table-numbers close s)
+malformed-exactly sendFailed s = other-number _ (only-table-numbers sendFailed s)
+malformed-exactly (response m) s = other-number _ (only-table-numbers (response m) s)
+malformed-exactly (handshake m) s = other-number _ (only-table-numbers (handshake m) s)
+malformed-exactly (judge v) s = other-number _ (only-table-numbers (judge v) s)
+malformed-exactly (break b) s = break-exactly b s
+malformed-exactly (failedAttempt b v) s = attempt-exactly b v s

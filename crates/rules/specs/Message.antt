@@ -1,15 +1,14 @@
 -- What goes over the line: requests, responses, and how a stream breaks (bidi_write.rs and the protobuf messages that it uses).
-use Rattle.rules.specs.Basics.{Bool, true, false, Option, none, some, List, ℕ, length, ltb, eqb, ℤ}
+use Rattle.rules.specs.Basics.{Bool, true, false, not, _&&_, Option, none, some, ℕ, length, ltb, eqb, ℤ}
+use Rattle.protobuf_format.specs.Reading.{_>>=_}
+use Rattle.redirect_format.specs.Redirect.{readRedirect}
+pub use Rattle.protobuf_format.specs.Reading.{Bytes}
+pub use Rattle.redirect_format.specs.Redirect.{Generation, Redirect}
 
-abbrev pub Bytes : Type 0
-Bytes = List ℕ
+abbrev pub isGiven {ℓ} : {A : Type ℓ} → Option A → Bool
+isGiven = elim [ none ↦ false | some a ↦ true ]
 
--- "A generation and an offset are both signed 64-bit numbers of unlike meaning, and neither may be passed for the other."
--- Offsets and sizes are ℤ.
-pub record Generation : Type 0 where
-  pub number : ℤ
-
--- a metageneration is neither
+-- Offsets and sizes are ℤ. A metageneration is neither one of them nor a generation.
 pub record Metageneration : Type 0 where
   pub number : ℤ
 
@@ -45,26 +44,27 @@ isFinalized = elim [ none ↦ false | some (persistedSize n) ↦ false | some (r
 abbrev pub generationOf : Option WriteStatus → Option Generation
 generationOf = elim [ none ↦ none | some (persistedSize n) ↦ none | some (resource n g f) ↦ some g ]
 
--- the detail of a status that redirects (BidiWriteObjectRedirectedError)
-pub record Redirect : Type 0 where
-  pub routingToken : Option Bytes
-  pub writeHandle : Option Bytes
-  pub generation : Option Generation
-
--- "A break is an end of stream, a status or another error; a status may hold a redirect." A status has its code.
+-- "A break is an end of stream, a status or another error; a status may hold a redirect." A status has its code and, where it holds one, "the
+-- value of a redirect detail as received".
 pub data Break : Type 0 where
   endOfStream : Break
-  status : ℕ → Option Redirect → Break
+  status : ℕ → Option Bytes → Break
   otherError : Break
 
-abbrev pub redirectIn : Break → Option Redirect
-redirectIn = elim [ endOfStream ↦ none | status code r ↦ r | otherError ↦ none ]
+abbrev pub detailIn : Break → Option Bytes
+detailIn = elim [ endOfStream ↦ none | status code value ↦ value | otherError ↦ none ]
+
+abbrev pub redirectIn : Break → Option Redirect  -- what its detail says
+redirectIn b = detailIn b >>= readRedirect
+
+abbrev pub isMalformed : Break → Bool  -- "the bytes are malformed", whatever the code
+isMalformed b = isGiven (detailIn b) && not (isGiven (redirectIn b))
 
 abbrev pub isRedirect : Break → Bool  -- "It is a redirect only where the code is Aborted too." Aborted is gRPC's 10.
-isRedirect = elim [ endOfStream ↦ false | status code none ↦ false | status code (some r) ↦ eqb code 10 | otherError ↦ false ]
+isRedirect = elim [ endOfStream ↦ false | status code none ↦ false | status code (some value) ↦ eqb code 10 | otherError ↦ false ]
 
 abbrev pub isEnd : Break → Bool
-isEnd = elim [ endOfStream ↦ true | status code r ↦ false | otherError ↦ false ]
+isEnd = elim [ endOfStream ↦ true | status code value ↦ false | otherError ↦ false ]
 
 abbrev pub over : ℕ → Option Bytes → Bool  -- given, and over n bytes
 over n = elim [ none ↦ false | some b ↦ ltb n (length b) ]

@@ -1,9 +1,9 @@
 -- "Breaks and replay", first half: break, verdict, failed attempt (`Connector::reconnect` without clock, retry_redirect.rs, redirect.rs).
 use Rattle.rules.specs.Basics.{Bool, true, false, not, cond, _&&_, _||_, Option, none, some, [], _∷_, ℕ, suc, _-_, _^_, min, ltb, eqb}
 use Rattle.rules.specs.Limits.{maxRedirects}
-use Rattle.rules.specs.Message.{Redirect, Break, redirectIn, isRedirect, isEnd, over, maxHandle, maxToken}
+use Rattle.rules.specs.Message.{Redirect, Break, redirectIn, isMalformed, isRedirect, isEnd, over, maxHandle, maxToken}
 use Rattle.rules.specs.Spec.{redirected}
-use Rattle.rules.specs.Session.{Connector, Cause, finished, permanent, exhausted, givenUp, streamError, Phase, live, closing, connecting, verdict, replay, ended, nothing, Session, attempt, ok, Result, answers, setConnector, setMark, setCounters, setSpec, setWorker, setPhase, isLive, isClosing, isVerdict, isConnecting, isEnded, complete, choose, checks, unless, ending}
+use Rattle.rules.specs.Session.{Connector, Cause, finished, permanent, exhausted, givenUp, streamError, Phase, live, closing, connecting, verdict, replay, ended, nothing, Session, Call, append, flush, finalise, nextRequest, close, sendFailed, response, handshake, break, judge, failedAttempt, attempt, ok, Result, answers, setConnector, setMark, setCounters, setSpec, setWorker, setPhase, isLive, isClosing, isVerdict, isConnecting, isEnded, complete, choose, checks, unless, ending}
 use Rattle.rules.specs.Respond.{progress}
 
 abbrev pub overlong : Option Redirect → Bool  -- token or handle of a redirect too long
@@ -21,7 +21,7 @@ attempted false c = setCounters (min (suc (c .counters .attemptCount)) (2 ^ 32 -
 -- zeroes both counters", and the attempt number "is answered; a redirect answers 0".
 unfoldable pub breaks : Break → Session → Result
 breaks b s =
-    unless s (checks ((isEnded (s .phase), 7) ∷ (not (isLive (s .phase) || isClosing (s .phase)), 6) ∷ (overlong (redirectIn b), 4) ∷ []))
+    unless s (checks ((isEnded (s .phase), 7) ∷ (not (isLive (s .phase) || isClosing (s .phase)), 6) ∷ (isMalformed b, 15) ∷ (overlong (redirectIn b), 4) ∷ []))
     (choose (complete s) (ending finished 0 s)
     (choose (isClosing (s .phase)) (ending (cond (isEnd b) finished streamError) 0 s)
     (let c = attempted (isRedirect b) (progress (some (s .worker .persistedSize)) (rerouted (redirectIn b) (s .worker .connector))) in
@@ -61,7 +61,23 @@ judges v s =
 -- "A failed attempt brings its error and verdict under the same redirect rule, without the attempt number."
 unfoldable pub fails : Break → ℕ → Session → Result
 fails b v s =
-    unless s (checks ((isEnded (s .phase), 7) ∷ (not (isConnecting (s .phase)), 6) ∷ (noVerdict v, 13) ∷ (overlong (redirectIn b), 4) ∷ []))
+    unless s (checks ((isEnded (s .phase), 7) ∷ (not (isConnecting (s .phase)), 6) ∷ (noVerdict v, 13) ∷ (isMalformed b, 15) ∷ (overlong (redirectIn b), 4) ∷ []))
     (let c = rerouted (redirectIn b) (s .worker .connector) in
     let r = isRedirect b in
     ruled (ruling r (c .counters .redirectsFollowed) v) (setWorker (setConnector (counted r c) (s .worker)) s))
+
+-- "15 when the bytes are malformed, between 13 and 4": a call past 7, 6 and 13 that brings a malformed detail
+abbrev pub unreadable : Call → Session → Bool
+unreadable c s = elim c [
+  | break b ↦ (isLive (s .phase) || isClosing (s .phase)) && isMalformed b
+  | failedAttempt b v ↦ isConnecting (s .phase) && not (noVerdict v) && isMalformed b
+  | append d out ↦ false
+  | flush out ↦ false
+  | finalise out ↦ false
+  | nextRequest out ↦ false
+  | close ↦ false
+  | sendFailed ↦ false
+  | response m ↦ false
+  | handshake m ↦ false
+  | judge v ↦ false
+]

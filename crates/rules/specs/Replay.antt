@@ -1,14 +1,12 @@
 -- "Breaks and replay", second half: next request and a send reported failed (`Worker::reconnect` after the handshake).
 use Rattle.rules.specs.Basics.{Bool, true, false, not, cond, _&&_, Option, none, some, [], _∷_, ℕ, suc, _-_, length, getElem?}
+use Rattle.rules.specs.Message.{isGiven}
 use Rattle.rules.specs.Session.{ReplayChunk, PendingRequest, Phase, live, closing, connecting, verdict, replay, ended, Sent, nothing, aRequest, bareFlush, Session, sends, ok, done, Result, answers, setMark, setWorker, setPhase, isReplay, isEnded, chunks, waiters, watermark, shortOut, choose, checks, unless}
 use Rattle.rules.specs.Upload.{chunkRequest}
 use Rattle.rules.specs.Respond.{bareRequest}
 
 abbrev pub place : Phase → ℕ  -- how many requests the replay has handed out
 place = elim [ live ↦ 0 | verdict r ↦ 0 | connecting ↦ 0 | replay i ↦ i | closing ↦ 0 | ended c ↦ 0 ]
-
-abbrev pub given {ℓ} : {A : Type ℓ} → Option A → Bool
-given = elim [ none ↦ false | some a ↦ true ]
 
 abbrev pub handsLast : ℕ → Session → Result  -- "a bare flush if the watermark holds, then *done*, live again"
 handsLast i s =
@@ -29,7 +27,7 @@ unfoldable pub hands : ℕ → Session → Result
 hands out s =
     let i = place (s .phase) in
     let c = getElem? (chunks s) i in
-    unless s (checks ((isEnded (s .phase), 7) ∷ (not (isReplay (s .phase)), 6) ∷ (given c && shortOut out s, 11) ∷ []))
+    unless s (checks ((isEnded (s .phase), 7) ∷ (not (isReplay (s .phase)), 6) ∷ (isGiven c && shortOut out s, 11) ∷ []))
     (handsChunk c i s)
 
 abbrev pub isNothing : Sent → Bool

@@ -82,7 +82,7 @@ pub data Call : Type 0 where
   failedAttempt : Break → ℕ → Call
 
 pub data Answer : Type 0 where
-  refused : ℕ → Answer  -- the number of document 01's table
+  refused : ℕ → Answer  -- the number of document 01's table; 15 is document 02's
   took : ℕ → Option Request → Answer  -- append: bytes taken, and the request of the chunk that was cut
   sends : Request → Answer  -- flush, finalise: held bytes were cut, call again; next request: the one to send
   waits : Request → ℕ → Answer  -- flush, finalise: the request, and the number of the waiter made
@@ -91,6 +91,9 @@ pub data Answer : Type 0 where
   ok : Answer  -- close, a verdict or failed attempt that goes on, a send reported failed
   done : Answer  -- next request: the replay is done
   ends : Cause → ℕ → ℕ → Answer  -- the call ended the session: cause, waiters completed before, waiters failed or dropped
+
+abbrev pub refusedWith : ℕ → Answer → Bool
+refusedWith n = elim [ refused k ↦ eqb k n | took k r ↦ false | sends r ↦ false | waits r k ↦ false | completes k r ↦ false | attempt k ↦ false | ok ↦ false | done ↦ false | ends c k f ↦ false ]
 
 pub record Result : Type 0 where
   pub answer : Answer
@@ -205,8 +208,9 @@ abbrev pub inOrder : List ℕ → Rows → Rows
 inOrder [] rows = []
 inOrder (n ∷ ns) rows = numbered n rows ++ inOrder ns rows
 
-abbrev pub checks : Rows → Rows  -- "Later calls check 7, 12, 6, 13, 4, 11, 8, 9, 10, as far as they apply."
-checks = inOrder (7 ∷ 12 ∷ 6 ∷ 13 ∷ 4 ∷ 11 ∷ 8 ∷ 9 ∷ 10 ∷ [])
+-- "Later calls check 7, 12, 6, 13, 4, 11, 8, 9, 10, as far as they apply", and 15 "between 13 and 4".
+abbrev pub checks : Rows → Rows
+checks = inOrder (7 ∷ 12 ∷ 6 ∷ 13 ∷ 15 ∷ 4 ∷ 11 ∷ 8 ∷ 9 ∷ 10 ∷ [])
 
 unfoldable pub choose : Bool → Result → Result → Result  -- one of two results
 choose true x y = x

@@ -112,10 +112,10 @@ pub fn handshake(
     r.answer
 }
 
-pub fn stream_break(s: &mut Session, b: Break, token: &[u8], handle: &[u8]) -> Answer
-    ensures { λ r. ⌜ Promised (R.break (breakOf b (now (token .entry)) (now (handle .entry)))) (now (s .entry)) (outcome (now (s .exit)) r) ⌝ }
+pub fn stream_break(s: &mut Session, b: Break, detail: &[u8]) -> Answer
+    ensures { λ r. ⌜ Promised (R.break (breakOf b (now (detail .entry)))) (now (s .entry)) (outcome (now (s .exit)) r) ⌝ }
 {
-    let r = reconnects::stream_break(*s, b, token, handle);
+    let r = reconnects::stream_break(*s, b, detail);
     *s = r.session;
     r.answer
 }
@@ -128,10 +128,10 @@ pub fn judge(s: &mut Session, verdict: u8) -> Answer
     r.answer
 }
 
-pub fn failed_attempt(s: &mut Session, b: Break, token: &[u8], handle: &[u8], verdict: u8) -> Answer
-    ensures { λ r. ⌜ Promised (R.failedAttempt (breakOf b (now (token .entry)) (now (handle .entry))) verdict) (now (s .entry)) (outcome (now (s .exit)) r) ⌝ }
+pub fn failed_attempt(s: &mut Session, b: Break, detail: &[u8], verdict: u8) -> Answer
+    ensures { λ r. ⌜ Promised (R.failedAttempt (breakOf b (now (detail .entry))) verdict) (now (s .entry)) (outcome (now (s .exit)) r) ⌝ }
 {
-    let r = reconnects::failed_attempt(*s, b, token, handle, verdict);
+    let r = reconnects::failed_attempt(*s, b, detail, verdict);
     *s = r.session;
     r.answer
 }

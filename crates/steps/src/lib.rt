@@ -6,30 +6,28 @@ use bidi_write::Call;
 use transport::Outcome;
 use transport::Session;
 
-// Data is an append's; token and handle are a redirect's, and the handle a response's or handshake's. What a call does not bring is not read.
+// The bytes are an append's data, a response's or handshake's handle, or the value of a break's detail. Where a call brings none they are not read.
 pub fn step(
     s: Session,
     call: Call,
     store: &mut [u8],
     table: &mut [u64],
     out: &mut [u8],
-    data: &[u8],
-    token: &[u8],
-    handle: &[u8],
+    bytes: &[u8],
 ) -> Outcome
-    ensures { λ r. ⌜ Promise (callOf call (now («data» .entry)) (now (token .entry)) (now (handle .entry)) (length (now (out .entry)))) s (now (store .entry)) (now (table .entry)) (now (out .entry)) r (now (store .exit)) (now (table .exit)) (now (out .exit)) ⌝ }
+    ensures { λ r. ⌜ Promise (callOf call (now (bytes .entry)) (length (now (out .entry)))) s (now (store .entry)) (now (table .entry)) (now (out .entry)) r (now (store .exit)) (now (table .exit)) (now (out .exit)) ⌝ }
 {
     match call {
-        Call::Append => lending::append(s, store, table, out, data),
+        Call::Append => lending::append(s, store, table, out, bytes),
         Call::Flush => lending::flush(s, store, table, out),
         Call::Finalise => lending::finalise(s, store, table, out),
         Call::NextRequest => lending::next_request(s, store, table, out),
         Call::Close => lending::close(s),
         Call::SendFailed => lending::send_failed(s),
-        Call::Response(m) => lending::response(s, store, table, m, handle),
-        Call::Handshake(m) => lending::handshake(s, store, table, m, handle),
-        Call::Break(b) => lending::stream_break(s, b, token, handle),
+        Call::Response(m) => lending::response(s, store, table, m, bytes),
+        Call::Handshake(m) => lending::handshake(s, store, table, m, bytes),
+        Call::Break(b) => lending::stream_break(s, b, bytes),
         Call::Judge(v) => lending::judge(s, v),
-        Call::FailedAttempt(b, v) => lending::failed_attempt(s, b, token, handle, v),
+        Call::FailedAttempt(b, v) => lending::failed_attempt(s, b, bytes, v),
     }
 }

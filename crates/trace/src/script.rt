@@ -83,19 +83,8 @@ fn follow(
         let Asks::Call(call) = asks else {
             return over(out, asks, at, end, n);
         };
-        let data = r.data;
-        let token = r.token;
-        let handle = r.handle;
-        let o = steps::step(
-            s,
-            call,
-            store,
-            table,
-            room,
-            text_of(input, data),
-            text_of(input, token),
-            text_of(input, handle),
-        );
+        let bytes = r.bytes;
+        let o = steps::step(s, call, store, table, room, text_of(input, bytes));
         s = o.session;
         let a = o.answer;
         n = answer(out, n, call, a, room);

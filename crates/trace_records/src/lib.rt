@@ -68,12 +68,10 @@ pub fn ends(asks: Asks) -> bool {
     }
 }
 
-// A record, where the bytes stand that its call brings, and where the next record begins.
+// A record, where the bytes stand that its call brings, which are its last, and where the next record begins.
 pub struct Record {
     pub asks: Asks,
-    pub data: Text,
-    pub token: Text,
-    pub handle: Text,
+    pub bytes: Text,
     pub next: usize,
 }
 
@@ -101,29 +99,21 @@ pub fn read(input: &[u8], at: usize) -> Record {
 }
 
 // A record that is cut asks for nothing.
-fn whole(asks: Asks, data: Text, token: Text, handle: Text, next: usize) -> Record {
+fn whole(asks: Asks, bytes: Text) -> Record {
+    let next = bytes.next;
     if next == CUT {
         return Record {
             asks: Asks::Nothing,
-            data,
-            token,
-            handle,
+            bytes,
             next,
         };
     }
-    Record {
-        asks,
-        data,
-        token,
-        handle,
-        next,
-    }
+    Record { asks, bytes, next }
 }
 
 // A record that brings no bytes.
 fn plain(asks: Asks, next: usize) -> Record {
-    let none = no_text(next);
-    whole(asks, none, none, none, next)
+    whole(asks, no_text(next))
 }
 
 fn bare(call: Call, next: usize) -> Record {
@@ -136,46 +126,28 @@ fn open(input: &[u8], at: usize) -> Record {
 }
 
 fn append(input: &[u8], at: usize) -> Record {
-    let data = text_at(input, at);
-    let none = no_text(data.next);
-    whole(Asks::Call(Call::Append), data, none, none, data.next)
+    whole(Asks::Call(Call::Append), text_at(input, at))
 }
 
 fn response(input: &[u8], at: usize) -> Record {
     let m = read_message(input, at);
     let response = m.response;
     let handle = m.handle;
-    let none = no_text(handle.next);
-    whole(
-        Asks::Call(Call::Response(response)),
-        none,
-        none,
-        handle,
-        handle.next,
-    )
+    whole(Asks::Call(Call::Response(response)), handle)
 }
 
 fn handshake(input: &[u8], at: usize) -> Record {
     let m = read_message(input, at);
     let response = m.response;
     let handle = m.handle;
-    let none = no_text(handle.next);
-    whole(
-        Asks::Call(Call::Handshake(response)),
-        none,
-        none,
-        handle,
-        handle.next,
-    )
+    whole(Asks::Call(Call::Handshake(response)), handle)
 }
 
 fn stream_break(input: &[u8], at: usize) -> Record {
     let b = read_break(input, at);
     let how = b.how;
-    let token = b.token;
-    let handle = b.handle;
-    let none = no_text(b.next);
-    whole(Asks::Call(Call::Break(how)), none, token, handle, b.next)
+    let detail = b.detail;
+    whole(Asks::Call(Call::Break(how)), detail)
 }
 
 fn verdict(input: &[u8], at: usize) -> Record {
@@ -187,16 +159,8 @@ fn failed_attempt(input: &[u8], at: usize) -> Record {
     let v = u8_at(input, at);
     let b = read_break(input, v.next);
     let how = b.how;
-    let token = b.token;
-    let handle = b.handle;
-    let none = no_text(b.next);
-    whole(
-        Asks::Call(Call::FailedAttempt(how, v.value)),
-        none,
-        token,
-        handle,
-        b.next,
-    )
+    let detail = b.detail;
+    whole(Asks::Call(Call::FailedAttempt(how, v.value)), detail)
 }
 
 fn write(input: &[u8], at: usize) -> Record {

@@ -1,18 +1,14 @@
 // What a call is told: a response, or how the stream broke.
-use crate::fields::I64;
 use crate::fields::Text;
 use crate::fields::choice;
 use crate::fields::i64_at;
-use crate::fields::maybe_i64_at;
 use crate::fields::maybe_text_at;
 use crate::fields::no_text;
 use crate::fields::u32_at;
 use bidi_write::Break;
 use bidi_write::Detail;
 use bidi_write::Generation;
-use bidi_write::NewGeneration;
 use bidi_write::Offset;
-use bidi_write::Redirect;
 use bidi_write::Resource;
 use bidi_write::Response;
 use bidi_write::Status;
@@ -24,11 +20,10 @@ pub struct Message {
     pub handle: Text,
 }
 
+// Its detail's value is the last field.
 pub struct Broken {
     pub how: Break,
-    pub token: Text,
-    pub handle: Text,
-    pub next: usize,
+    pub detail: Text,
 }
 
 pub fn read_message(input: &[u8], at: usize) -> Message {
@@ -79,52 +74,28 @@ pub fn read_break(input: &[u8], at: usize) -> Broken {
 }
 
 fn plain(how: Break, next: usize) -> Broken {
-    let none = no_text(next);
     Broken {
         how,
-        token: none,
-        handle: none,
-        next,
+        detail: no_text(next),
     }
 }
 
 fn status(input: &[u8], at: usize) -> Broken {
     let code = u32_at(input, at);
-    let detail = choice(input, code.next, 1);
-    if detail.value == 0 {
-        let status = Status {
-            code: code.value,
-            detail: Detail::Absent,
-        };
-        return plain(Break::Status(status), detail.next);
-    }
-    redirect(input, detail.next, code.value)
-}
-
-fn redirect(input: &[u8], at: usize, code: u32) -> Broken {
-    let token = maybe_text_at(input, at);
-    let handle = maybe_text_at(input, token.next);
-    let new = maybe_i64_at(input, handle.next);
-    let redirect = Redirect {
-        has_routing_token: token.given,
-        has_write_handle: handle.given,
-        generation: generation(new),
-    };
+    let detail = maybe_text_at(input, code.next);
     let status = Status {
-        code,
-        detail: Detail::Redirect(redirect),
+        code: code.value,
+        detail: redirects(detail.given),
     };
     Broken {
         how: Break::Status(status),
-        token,
-        handle,
-        next: new.next,
+        detail,
     }
 }
 
-fn generation(x: I64) -> NewGeneration {
-    if x.given {
-        return NewGeneration::Given(Generation(x.value));
+fn redirects(given: bool) -> Detail {
+    if given {
+        return Detail::Redirect;
     }
-    NewGeneration::Absent
+    Detail::Absent
 }

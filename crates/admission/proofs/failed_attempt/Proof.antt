@@ -17,8 +17,13 @@ row-requires-3 c κs = search needs
 row-requires-4 : tie.Need-row-requires-4
 row-requires-4 c κs = search needs
 
+row-requires-5 : tie.Need-row-requires-5
+row-requires-5 c κs = search needs
+
 returns : tie.Need-returns
-returns c = c .row4 .ensures ∙ rw (c .before .row3 .ensures, c .before .before .row2 .ensures, c .before .before .before .row .ensures) (chained _)
+returns c =
+    c .row5 .ensures
+    ∙ rw (c .before .row4 .ensures, c .before .before .row3 .ensures, c .before .before .before .row2 .ensures, c .before .before .before .before .row .ensures) (chained _)
 
 pub failed-attempt-spec : {M : Type 1} → statement M
-failed-attempt-spec = tie.close (tie.spec row-requires row-requires-2 row-requires-3 row-requires-4 returns)
+failed-attempt-spec = tie.close (tie.spec row-requires row-requires-2 row-requires-3 row-requires-4 row-requires-5 returns)

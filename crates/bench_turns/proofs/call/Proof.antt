@@ -6,12 +6,6 @@ use Rattle.bench_turns.proofs.call.Tie as tie
 call-of-requires : tie.Need-call-of-requires
 call-of-requires c κs = search needs
 
-slice-aggregate-step : tie.Need-slice-aggregate-step
-slice-aggregate-step c = search needs
-
-slice-aggregate-step-2 : tie.Need-slice-aggregate-step-2
-slice-aggregate-step-2 c = search needs
-
 step-requires : tie.Need-step-requires
 step-requires c κs = search needs
 
@@ -27,7 +21,7 @@ same-length-3 c = search needs
 returns : tie.Need-returns
 returns c =
     let step = c .before .before .before .before .before .before .step in
-    let made = c .before .before .before .before .before .before .before .before .before .before .before .before .call-of in
+    let made = c .before .before .before .before .before .before .before .before .before .before .call-of in
     rw (made .ensures _ _) at (step .ensures)
 
 pub call-spec : {M : Type 1} → statement M
@@ -35,8 +29,6 @@ call-spec =
     tie.close
     (tie.spec
     call-of-requires
-    slice-aggregate-step
-    slice-aggregate-step-2
     step-requires
     same-length
     same-length-2

@@ -51,10 +51,10 @@ returns-4 : tie.Need-returns-4
 returns-4 c = λ bytes out. rw (c .enum-told4 .given .1)
 
 returns-5 : tie.Need-returns-5
-returns-5 c = λ bytes out. rw (c .before .before .c .given .1) (ap R.response (c .sized .ensures))
+returns-5 c = λ bytes out. rw (c .before .before .c .given .1) (ap R.response (c .sized .ensures bytes))
 
 returns-6 : tie.Need-returns-6
-returns-6 c = λ bytes out. rw (c .before .before .c2 .given .1) (ap R.handshake (c .sized2 .ensures))
+returns-6 c = λ bytes out. rw (c .before .before .c2 .given .1) (ap R.handshake (c .sized2 .ensures bytes))
 
 returns-7 : tie.Need-returns-7
 returns-7 c = λ bytes out. rw (c .enum-told5 .given .1)

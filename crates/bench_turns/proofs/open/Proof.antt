@@ -1,5 +1,6 @@
 -- `bench_turns::open` meets its contract: its arguments are those of the rules' opening.
 use borrow.Author.Needs.{needs}
+use mathlib.Core.List.{[]}
 use Rattle.openings.specs.Opening.{openingOf}
 use Rattle.bench_turns.proofs.Turns.{opening-is, begun}
 use Rattle.bench_turns.proofs.open.Statement.{statement}
@@ -37,7 +38,7 @@ same-length-2 c = search needs
 
 returns : tie.Need-returns
 unfolding openingOf
-returns c = begun (λ l. opening-is (c .before .before .before .before .before .before .before .before .before .before .before .before .before .before .before .before .args .limit) (c .before .before .before .before .before .before .before .before .before .before .before .before .before .before .before .before .args .capacity) (c .before .before .before .before .before .before .before .before .before .before .before .before .before .sized .ensures) (l .0) (l .1)) (c .before .before .before .before .«open» .ensures)
+returns c = begun (λ l. opening-is (c .before .before .before .before .before .before .before .before .before .before .before .before .before .before .before .before .args .limit) (c .before .before .before .before .before .before .before .before .before .before .before .before .before .before .before .before .args .capacity) (c .before .before .before .before .before .before .before .before .before .before .before .before .before .sized .ensures []) (l .0) (l .1)) (c .before .before .before .before .«open» .ensures)
 
 pub open-spec : {M : Type 1} → statement M
 open-spec =

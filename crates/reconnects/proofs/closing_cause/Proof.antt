@@ -14,13 +14,13 @@ enum-told-3 : tie.Need-enum-told-3
 enum-told-3 c = search needs
 
 returns : tie.Need-returns
-returns c token handle = simp (c .enum-told .given .1)
+returns c detail = simp (c .enum-told .given .1)
 
 returns-2 : tie.Need-returns-2
-returns-2 c token handle = simp (c .enum-told2 .given .1)
+returns-2 c detail = simp (c .enum-told2 .given .1)
 
 returns-3 : tie.Need-returns-3
-returns-3 c token handle = simp (c .enum-told3 .given .1)
+returns-3 c detail = simp (c .enum-told3 .given .1)
 
 pub closing-cause-spec : {M : Type 1} → statement M
 closing-cause-spec =

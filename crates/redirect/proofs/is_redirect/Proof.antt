@@ -24,22 +24,22 @@ enum-told-4 : tie.Need-enum-told-4
 enum-told-4 c = search needs
 
 returns : tie.Need-returns
-returns c token handle = simp (c .enum-told .given .1)
+returns c value = simp (c .enum-told .given .1)
 
 returns-2 : tie.Need-returns-2
-returns-2 c token handle =
+returns-2 c value =
     let s = c .before .before .before .b .given in
-    ap (λ (d : Detail). M.isRedirect (M.status (s .0 .0 .code) (detailOf d token handle))) (sym (c .enum-told2 .given .1))
-    ∙ ap (λ (b : Break). M.isRedirect (breakOf b token handle)) (sym (s .1))
+    ap (λ (d : Detail). M.isRedirect (M.status (s .0 .0 .code) (detailOf d value))) (sym (c .enum-told2 .given .1))
+    ∙ ap (λ (b : Break). M.isRedirect (breakOf b value)) (sym (s .1))
 
 returns-3 : tie.Need-returns-3
-returns-3 c token handle =
+returns-3 c value =
     let s = c .before .before .before .b .given in
-    ap (λ (d : Detail). M.isRedirect (M.status (s .0 .0 .code) (detailOf d token handle))) (sym (c .enum-told3 .given .1))
-    ∙ ap (λ (b : Break). M.isRedirect (breakOf b token handle)) (sym (s .1))
+    ap (λ (d : Detail). M.isRedirect (M.status (s .0 .0 .code) (detailOf d value))) (sym (c .enum-told3 .given .1))
+    ∙ ap (λ (b : Break). M.isRedirect (breakOf b value)) (sym (s .1))
 
 returns-4 : tie.Need-returns-4
-returns-4 c token handle = simp (c .enum-told4 .given .1)
+returns-4 c value = simp (c .enum-told4 .given .1)
 
 pub is-redirect-spec : {M : Type 1} → statement M
 is-redirect-spec =

@@ -1,13 +1,13 @@
 -- Cases that tell a right reading of document 01 from a wrong one: its four "Likely misreadings" first.
 use mathlib.Core.Path.{refl}
 use mathlib.Core.Bool.{true, false}
-use mathlib.Core.Option.{Option, none, some}
+use mathlib.Core.Option.{none, some}
 use mathlib.Core.List.{List, [], _∷_, map}
 use Prim.Native.Nat.{ℕ}
 use lib.IntN.{pos}
 use Rattle.crc32c.specs.Reg.{crcOf}
 use Rattle.rules.specs.Basics.{All}
-use Rattle.rules.specs.Message.{Bytes, Generation, Break, endOfStream, status, otherError, resource, Response}
+use Rattle.rules.specs.Message.{Break, endOfStream, status, otherError, resource, Response}
 use Rattle.rules.specs.Spec.{AppendObjectSpec}
 use Rattle.rules.specs.Session.{ReplayChunk, finished, alreadyFinalized, givenUp, streamError, Session, Call, append, flush, finalise, close, sendFailed, response, break, judge, refused, completes, attempt, ok, ends, chunks, stored}
 use Rattle.rules.specs.Upload.{flushRequest}
@@ -22,9 +22,9 @@ finalisedAt n = record { writeStatus = some (resource (pos n) (record { number =
 abbrev unsized : Response
 unsized = record { writeStatus = none; writeHandle = none }
 
--- a status with a redirect's detail: its code, the handle and the generation
-abbrev detail : ℕ → Option Bytes → Option Generation → Break
-detail code handle generation = status code (some (record { routingToken = none; writeHandle = handle; generation = generation }))
+-- Unavailable, with a redirect's detail that has the handle 7 and generation 3
+abbrev unavailable : Break
+unavailable = status 14 (some (18 ∷ 3 ∷ 10 ∷ 1 ∷ 7 ∷ 24 ∷ 3 ∷ []))
 
 abbrev spec : Session → AppendObjectSpec
 spec s = s .worker .connector .spec
@@ -50,10 +50,10 @@ table =
     ∷ row 7 (after (at 0) (four ∷ response (sized (pos 9)) ∷ []) stored) (some 0)
     -- "It is a redirect only where the code is Aborted too. Another break adds 1 to the attempt number"
     ∷ row 8 (after (at 0) [] (to (break redirection))) (some (attempt 0))
-    ∷ row 9 (after (at 0) [] (to (break (detail 14 none none)))) (some (attempt 1))
+    ∷ row 9 (after (at 0) [] (to (break unavailable))) (some (attempt 1))
     -- "replaces ... handle and generation where it has them, for any code"
-    ∷ row 10 (after (at 0) (break (detail 14 (some (7 ∷ [])) (some (record { number = pos 3 }))) ∷ []) (λ s. (spec s) .writeHandle)) (some (some (7 ∷ [])))
-    ∷ row 11 (after (at 0) (break (detail 14 (some (7 ∷ [])) (some (record { number = pos 3 }))) ∷ []) (λ s. (spec s) .generation .number)) (some (pos 3))
+    ∷ row 10 (after (at 0) (break unavailable ∷ []) (λ s. (spec s) .writeHandle)) (some (some (7 ∷ [])))
+    ∷ row 11 (after (at 0) (break unavailable ∷ []) (λ s. (spec s) .generation .number)) (some (pos 3))
     -- "4 host gives up", on a redirect too
     ∷ row 12 (after (at 0) (break redirection ∷ []) (to (judge 4))) (some (ends givenUp 0 0))
     -- "Finalise sent and no waiter: *finished*."

@@ -9,7 +9,7 @@ use lib.IntN.{pos}
 use Rattle.rules.specs.Basics.{All}
 use Rattle.rules.specs.Message.{Bytes, endOfStream, status, resource}
 use Rattle.rules.specs.Spec.{writeForm}
-use Rattle.rules.specs.Session.{Call, append, flush, finalise, response, handshake, break, judge, failedAttempt, refused}
+use Rattle.rules.specs.Session.{Call, append, flush, finalise, response, handshake, break, judge, failedAttempt, refused, attempt}
 use Rattle.rules.specs.Opening.{Opening, turnedAway, opens, bucketPrefix}
 use Rattle.rules.specs.Bench.{sized}
 use Rattle.rules.proofs.Evidence.Computed.{computed}
@@ -36,6 +36,10 @@ ten = append (1 ∷ 2 ∷ 3 ∷ 4 ∷ []) 4 ∷ append (1 ∷ 2 ∷ 3 ∷ 4 ∷ 
 abbrev away : List Call
 away = break endOfStream ∷ judge 1 ∷ []
 
+-- a redirect's detail with a token of 513 bytes
+abbrev longToken : Bytes
+longToken = 10 ∷ 129 ∷ 4 ∷ replicate 513 0
+
 abbrev pub table : List Row
 table =
     -- openings, each with the faults of all that follow
@@ -58,11 +62,18 @@ table =
     ∷ row 11 (after (at 0) [] (to (append (1 ∷ 2 ∷ 3 ∷ 4 ∷ []) 3))) (some (refused 11))
     ∷ row 12 (after (at 0) (finalise 4 ∷ []) (to (finalise 4))) (some (refused 12))
     ∷ row 13 (after (at 0) (break endOfStream ∷ []) (to (judge 0))) (some (refused 13))
-    -- "Later calls check 7, 12, 6, 13, 4, 11, 8, 9, 10": each with the fault of the next
+    -- 15 wherever a status holds a detail, whatever its code; an empty one is a redirect's
+    ∷ row 15 (after (at 0) [] (to (break (status 14 (some (8 ∷ [])))))) (some (refused 15))
+    ∷ row 4 (after (at 0) [] (to (break (status 10 (some longToken))))) (some (refused 4))
+    ∷ row 0 (after (at 0) [] (to (break (status 10 (some []))))) (some (attempt 0))
+    -- "Later calls check 7, 12, 6, 13, 4, 11, 8, 9, 10", 15 "between 13 and 4": each with the fault of the next
     ∷ row 7 (after (at 5) (finalise 4 ∷ response (sized (pos 4)) ∷ []) (to (finalise 4))) (some (refused 7))
     ∷ row 12 (after (at 0) (finalise 4 ∷ break endOfStream ∷ []) (to (flush 4))) (some (refused 12))
     ∷ row 6 (after (at 0) [] (to (judge 0))) (some (refused 6))
-    ∷ row 13 (after (at 0) away (to (failedAttempt (status 10 (some (record { routingToken = some (replicate 513 0); writeHandle = none; generation = none }))) 0))) (some (refused 13))
+    ∷ row 13 (after (at 0) away (to (failedAttempt (status 10 (some (8 ∷ []))) 0))) (some (refused 13))
+    ∷ row 15 (after (at 0) away (to (failedAttempt (status 10 (some (longToken ++ (8 ∷ [])))) 1))) (some (refused 15))
+    ∷ row 15 (after (at 0) [] (to (break (status 10 (some (longToken ++ (8 ∷ []))))))) (some (refused 15))
+    ∷ row 6 (after (at 0) away (to (break (status 10 (some (8 ∷ [])))))) (some (refused 6))
     ∷ row 11 (after (at 0) ten (to (append (1 ∷ 2 ∷ 3 ∷ 4 ∷ []) 3))) (some (refused 11))
     ∷ row 8 (after (at 0) (replicate 16 (flush 4) ++ ten) (to (flush 4))) (some (refused 8))
     ∷ row 9 (after (opens (opening 4 15 1 (98 ∷ []) 0 (2 ^ 63 - 2) false)) (append (1 ∷ []) 4 ∷ flush 4 ∷ append (1 ∷ []) 4 ∷ []) (to (flush 4))) (some (refused 9))
@@ -70,4 +81,4 @@ table =
 
 pub refusals : All Met table
 unfolding computed
-refusals = (refl, (refl, (refl, (refl, (refl, (refl, (refl, (refl, (refl, (refl, (refl, (refl, (refl, (refl, (refl, (refl, (refl, (refl, (refl, (refl, (refl, (refl, (refl, (refl, (refl, tt)))))))))))))))))))))))))
+refusals = (refl, (refl, (refl, (refl, (refl, (refl, (refl, (refl, (refl, (refl, (refl, (refl, (refl, (refl, (refl, (refl, (refl, (refl, (refl, (refl, (refl, (refl, (refl, (refl, (refl, (refl, (refl, (refl, (refl, (refl, (refl, tt)))))))))))))))))))))))))))))))

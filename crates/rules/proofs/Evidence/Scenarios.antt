@@ -150,7 +150,7 @@ payload-server = record { size = refl; together = refl; summed = λ e sum f. cc 
 
 -- Aborted, with this token
 abbrev redirect : ℕ → Break
-redirect t = status 10 (some (record { routingToken = some (t ∷ []); writeHandle = none; generation = none }))
+redirect t = status 10 (some (10 ∷ 1 ∷ t ∷ []))
 
 -- three redirects, with a failed attempt that is none, then `between`, then the fourth
 abbrev pub redirects : List Event → List Event

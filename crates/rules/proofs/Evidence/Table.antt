@@ -42,4 +42,4 @@ abbrev pub at : ℕ → Opened
 at p = opens (opening 4 9 (pos p) none)
 
 abbrev pub redirection : Break
-redirection = status 10 (some (record { routingToken = none; writeHandle = none; generation = none }))
+redirection = status 10 (some [])

@@ -23,8 +23,8 @@ use Rattle.session.proofs.failed_attempt as failed-attempt
 use Rattle.session.proofs.failed_attempt.Statement as stated
 use Rattle.session.proofs.failed_attempt.Code as code
 
-abbrev sp : (κs : Lfts 3) → Spells (typesAt (failed-attempt.signature .params) κs)
-sp κs = (ptr-vals, (EL.vals Break.the-type Break′.the-laws, (slice-vals, (slice-vals, (uint-vals w8, tt)))))
+abbrev sp : (κs : Lfts 2) → Spells (typesAt (failed-attempt.signature .params) κs)
+sp κs = (ptr-vals, (EL.vals Break.the-type Break′.the-laws, (slice-vals, (uint-vals w8, tt))))
 
 abbrev Core : {M : Type 1} (𝓤 : URA M) (H : Heap 𝓤) (A : Atoms 𝓤) (mem : Memory → SProp 𝓤) (run : Routine → Fun 𝓤) → Contract 𝓤
 Core 𝓤 H A mem run = tripleOf 𝓤 H A core.signature (core.spec 𝓤 H A mem run)
@@ -33,7 +33,7 @@ Core 𝓤 H A mem run = tripleOf 𝓤 H A core.signature (core.spec 𝓤 H A mem
 abbrev τₙ : Ty
 τₙ = tyStruct (N.the-type .name) (tcons T′.mir (tcons A′.mir tnil))
 
-module _ {M : Type 1} (𝓤 : URA M) (H : Heap 𝓤) (A : Atoms 𝓤) (W : Given 𝓤 H A) (mem : Memory → SProp 𝓤) (run : Routine → Fun 𝓤) (κs : Lfts 3) (qs : Shares 3) (a : Args failed-attempt.signature κs) where
+module _ {M : Type 1} (𝓤 : URA M) (H : Heap 𝓤) (A : Atoms 𝓤) (W : Given 𝓤 H A) (mem : Memory → SProp 𝓤) (run : Routine → Fun 𝓤) (κs : Lfts 2) (qs : Shares 2) (a : Args failed-attempt.signature κs) where
   abbrev vss : Vals failed-attempt.signature κs
   vss = valss (typesAt (failed-attempt.signature .params) κs) (sp κs) a
 
@@ -47,30 +47,30 @@ module _ {M : Type 1} (𝓤 : URA M) (H : Heap 𝓤) (A : Atoms 𝓤) (W : Given
   module _ (are : Are (typesAt (failed-attempt.signature .params) κs) (Ises (typesAt (failed-attempt.signature .params) κs)) a vss)
       (C : Calls 𝓤 H) (Λ : Loops 𝓤 H) (fm : FmC 𝓤 H (W .laws) C) (known : Triple 𝓤 (C #reconnects·failed-attempt) (Core 𝓤 H A mem run)) where
     walk : ent 𝓤 (onEntry 𝓤 H A failed-attempt.signature κs qs a vss) (WpFn 𝓤 H C Λ code.function (flat (typesAt (failed-attempt.signature .params) κs) vss) (Post 𝓤 H A W failed-attempt.ended (failed-attempt.clauses 𝓤 H A mem run) ((κs, qs, tt, a, vss), tt)))
-    walk = starts 𝓤 H A W T.the-row 2 (others (failed-attempt.signature .params)) κs qs (a .0) (a .1) (vss .1) (
+    walk = starts 𝓤 H A W T.the-row 1 (others (failed-attempt.signature .params)) κs qs (a .0) (a .1) (vss .1) (
         enter ! C Λ code.function (flat (typesAt (failed-attempt.signature .params) κs) vss) _ $
-        alloc1 ! (λ l₀. alloc1 ! (λ l₁. alloc1 ! (λ l₂. alloc1 ! (λ l₃. alloc1 ! (λ l₄. alloc1 ! (λ l₅. alloc1 ! (λ l₆. alloc1 ! (λ l₇. alloc0 ! $ params1 ! $
-        pass1 ! (init ! 12 refl (tt, tt)) $ pass1 ! (init ! 10 refl (EL.lawful Break.the-type Break′.the-laws 𝓤 H A W tt .typed (a .1 .0) _ (are .1 .0) .0)) $ pass1 ! (init ! 8 refl (shr-slice-lawful 𝓤 H A W (named 1) (κs .1 .0) u8 .typed (a .1 .1 .0) _ (are .1 .1 .0) .0)) $ pass1 ! (init ! 6 refl (shr-slice-lawful 𝓤 H A W (named 2) (κs .1 .1 .0) u8 .typed (a .1 .1 .1 .0) _ (are .1 .1 .1 .0) .0)) $ pass1 ! (init ! 4 refl (uint-lawful 𝓤 H A W w8 .typed (a .1 .1 .1 .1 .0) _ (are .1 .1 .1 .1 .0) .0)) $ pass0 ! $
-        move ! (16 ∷ 17 ∷ 18 ∷ []) $ lent ! tt T.the-type T′.the-laws h (a .0 .ptr .0) (a .0 .ptr .1) (λ g.
-        -- [the record's cell; what it owns; the open borrow; obs; auth; _7; …; _0; …; what the others own; their tokens]: _i at 19 − 2 i
-        assigns ! (of-opd ! (load ! (from ! (hop ! (look ! 17 refl) (stop !))) (look-raw ! 0 refl))) (from ! (stop !)) (init ! 5 {τ = T′.mir} {b = l₇} {o = 0} {v = LL.val T.the-type T′.the-laws h} refl (LL.lawful T.the-type T′.the-laws 𝓤 H A W .typed h _ g .0)) $
-        move ! (22 ∷ 1 ∷ 21 ∷ []) $ use3 W (raw (Core 𝓤 H A mem run .pre to-core)) (none-asked 𝓤 H A W _) $
-        calls-at ! fm (Core 𝓤 H A mem run) known to-core (and-then ! (load ! (from ! (stop !)) (look ! 5 refl)) (and-then ! (load ! (from ! (stop !)) (look ! 15 refl)) (and-then ! (load ! (from ! (stop !)) (look ! 13 refl)) (and-then ! (load ! (from ! (stop !)) (look ! 11 refl)) (and-then ! (load ! (from ! (stop !)) (look ! 9 refl)) (no-more !)))))) (λ w.
+        alloc1 ! (λ l₀. alloc1 ! (λ l₁. alloc1 ! (λ l₂. alloc1 ! (λ l₃. alloc1 ! (λ l₄. alloc1 ! (λ l₅. alloc1 ! (λ l₆. alloc0 ! $ params1 ! $
+        pass1 ! (init ! 10 refl (tt, tt)) $ pass1 ! (init ! 8 refl (EL.lawful Break.the-type Break′.the-laws 𝓤 H A W tt .typed (a .1 .0) _ (are .1 .0) .0)) $ pass1 ! (init ! 6 refl (shr-slice-lawful 𝓤 H A W (named 1) (κs .1 .0) u8 .typed (a .1 .1 .0) _ (are .1 .1 .0) .0)) $ pass1 ! (init ! 4 refl (uint-lawful 𝓤 H A W w8 .typed (a .1 .1 .1 .0) _ (are .1 .1 .1 .0) .0)) $ pass0 ! $
+        move ! (14 ∷ 15 ∷ 16 ∷ []) $ lent ! tt T.the-type T′.the-laws h (a .0 .ptr .0) (a .0 .ptr .1) (λ g.
+        -- [the record's cell; what it owns; the open borrow; obs; auth; _6; …; _0; …; what the others own; their tokens]: _i at 17 − 2 i
+        assigns ! (of-opd ! (load ! (from ! (hop ! (look ! 15 refl) (stop !))) (look-raw ! 0 refl))) (from ! (stop !)) (init ! 5 {τ = T′.mir} {b = l₆} {o = 0} {v = LL.val T.the-type T′.the-laws h} refl (LL.lawful T.the-type T′.the-laws 𝓤 H A W .typed h _ g .0)) $
+        move ! (20 ∷ 1 ∷ 19 ∷ []) $ use3 W (raw (Core 𝓤 H A mem run .pre to-core)) (none-asked 𝓤 H A W _) $
+        calls-at ! fm (Core 𝓤 H A mem run) known to-core (and-then ! (load ! (from ! (stop !)) (look ! 5 refl)) (and-then ! (load ! (from ! (stop !)) (look ! 13 refl)) (and-then ! (load ! (from ! (stop !)) (look ! 11 refl)) (and-then ! (load ! (from ! (stop !)) (look ! 9 refl)) (no-more !))))) (λ w.
         comes ! tt core.ended (core.clauses 𝓤 H A mem run) to-core w (λ r ws. move ! (1 ∷ []) $ fsplit ! $ drop ! $ move ! (1 ∷ []) $
-        apart ! N.the-type N′.the-laws r (r .session, (r .answer, tt)) refl w (λ is. land ! (from ! (stop !)) (init ! 10 {τ = τₙ} {b = l₆} {o = 0} {v = LL.val N.the-type N′.the-laws r} refl (LL.lawful N.the-type N′.the-laws 𝓤 H A W .typed r _ is .0)) $ fsplit ! $ move ! (1 ∷ []) $ fsplit ! $
-        -- [what the answer owns; true; what the record owns; the others' last values; their tokens; what the callee says; the record's cell; the open borrow; obs; auth; _7; …; _0; …]: _i at 24 − 2 i
-        assigns ! (of-opd ! (load ! (from ! (fld ! {τ = T′.mir} {d = 0} refl (stop !))) (look-in ! 12 {τ = T′.mir} (sub ! {τs = (tcons T′.mir (tcons A′.mir tnil))} 0 {τ = T′.mir} {d = 0} refl (whole ! {τ = τₙ}))))) (from ! (hop ! (look ! 22 refl) (stop !))) (store-raw ! 6 {τ = T′.mir} {b = a .0 .ptr .0} {o = a .0 .ptr .1} refl (LL.lawful T.the-type T′.the-laws 𝓤 H A W .typed (r .session) _ (LL.owed N.the-type N′.the-laws r _ is .0) .0)) $
-        assigns ! (of-opd ! (load ! (from ! (fld ! {τ = A′.mir} {d = size T′.mir} refl (stop !))) (look-in ! 12 {τ = A′.mir} (sub ! {τs = (tcons T′.mir (tcons A′.mir tnil))} 1 {τ = A′.mir} {d = size T′.mir} refl (whole ! {τ = τₙ}))))) (from ! (stop !)) (init ! 24 {τ = A′.mir} {b = l₀} {o = 0} refl (N′.the-laws .1 .0 .lawful 𝓤 H A W .typed (N.the-type .to r .1 .0) _ (LL.owed N.the-type N′.the-laws r _ is .1 .0) .0)) $
+        apart ! N.the-type N′.the-laws r (r .session, (r .answer, tt)) refl w (λ is. land ! (from ! (stop !)) (init ! 10 {τ = τₙ} {b = l₅} {o = 0} {v = LL.val N.the-type N′.the-laws r} refl (LL.lawful N.the-type N′.the-laws 𝓤 H A W .typed r _ is .0)) $ fsplit ! $ move ! (1 ∷ []) $ fsplit ! $
+        -- [what the answer owns; true; what the record owns; the others' last values; their tokens; what the callee says; the record's cell; the open borrow; obs; auth; _6; …; _0; …]: _i at 22 − 2 i
+        assigns ! (of-opd ! (load ! (from ! (fld ! {τ = T′.mir} {d = 0} refl (stop !))) (look-in ! 12 {τ = T′.mir} (sub ! {τs = (tcons T′.mir (tcons A′.mir tnil))} 0 {τ = T′.mir} {d = 0} refl (whole ! {τ = τₙ}))))) (from ! (hop ! (look ! 20 refl) (stop !))) (store-raw ! 6 {τ = T′.mir} {b = a .0 .ptr .0} {o = a .0 .ptr .1} refl (LL.lawful T.the-type T′.the-laws 𝓤 H A W .typed (r .session) _ (LL.owed N.the-type N′.the-laws r _ is .0) .0)) $
+        assigns ! (of-opd ! (load ! (from ! (fld ! {τ = A′.mir} {d = size T′.mir} refl (stop !))) (look-in ! 12 {τ = A′.mir} (sub ! {τs = (tcons T′.mir (tcons A′.mir tnil))} 1 {τ = A′.mir} {d = size T′.mir} refl (whole ! {τ = τₙ}))))) (from ! (stop !)) (init ! 22 {τ = A′.mir} {b = l₀} {o = 0} refl (N′.the-laws .1 .0 .lawful 𝓤 H A W .typed (N.the-type .to r .1 .0) _ (LL.owed N.the-type N′.the-laws r _ is .1 .0) .0)) $
         move ! (6 ∷ 2 ∷ 7 ∷ 8 ∷ 9 ∷ []) $ closes ! tt T.the-row (r .session) (LL.vals T.the-type T′.the-laws (r .session)) (a .0 .ptr .0) (a .0 .ptr .1) $
-        returns ! (look ! 22 refl) $ gone ! 22 refl refl $ gone ! 20 refl refl $ gone ! 18 refl refl $ gone ! 16 refl refl $ gone ! 14 refl refl $ gone ! 12 refl refl $ gone ! 10 refl refl $ gone ! 8 refl refl $ free0 ! $
-        keep ! (0 ∷ 1 ∷ 2 ∷ 6 ∷ 5 ∷ 3 ∷ 7 ∷ []) $ leaves ! _ (id⊢ 𝓤 _) (ends 𝓤 H A W failed-attempt.ended (failed-attempt.clauses 𝓤 H A mem run) ((κs, qs, tt, a, vss), tt) _ (r .answer) (r .session, ws .1)))))))))))))))
+        returns ! (look ! 20 refl) $ gone ! 20 refl refl $ gone ! 18 refl refl $ gone ! 16 refl refl $ gone ! 14 refl refl $ gone ! 12 refl refl $ gone ! 10 refl refl $ gone ! 8 refl refl $ free0 ! $
+        keep ! (0 ∷ 1 ∷ 2 ∷ 6 ∷ 5 ∷ 3 ∷ 7 ∷ []) $ leaves ! _ (id⊢ 𝓤 _) (ends 𝓤 H A W failed-attempt.ended (failed-attempt.clauses 𝓤 H A mem run) ((κs, qs, tt, a, vss), tt) _ (r .answer) (r .session, ws .1))))))))))))))
 
 pub failed-attempt-spec : {M : Type 1} → stated.statement M
 unfolding code.routine tablesOf
 failed-attempt-spec 𝓤 H 𝓜 𝓖 𝓡 =
     entered 𝓤 H (tripleOf 𝓤 H (𝓖 .A) failed-attempt.signature (failed-attempt.spec 𝓤 H (𝓖 .A) (𝓜 .mem) (𝓡 .run)))
     (tables 𝓤 H 𝓜 𝓡 code.env .C) (tables 𝓤 H 𝓜 𝓡 code.env .Λ) #session·failed-attempt code.function (code.unfolded 𝓤 H 𝓜 𝓡)
-    (meets 𝓤 H (𝓖 .A) (givenOf 𝓤 H 𝓜 𝓖) failed-attempt.ended (failed-attempt.clauses 𝓤 H (𝓖 .A) (𝓜 .mem) (𝓡 .run)) code.function (tablesOf 𝓤 H 𝓜 (tables 𝓤 H 𝓜 𝓡 code.env)) sp (λ κs. (mut-tells (named 0) (κs .0) T.the-row, (EL.tells Break.the-type Break′.the-laws, (shr-slice-tells (named 1) (κs .1 .0) u8, (shr-slice-tells (named 2) (κs .1 .1 .0) u8, (uint-tells w8, tt))))))
+    (meets 𝓤 H (𝓖 .A) (givenOf 𝓤 H 𝓜 𝓖) failed-attempt.ended (failed-attempt.clauses 𝓤 H (𝓖 .A) (𝓜 .mem) (𝓡 .run)) code.function (tablesOf 𝓤 H 𝓜 (tables 𝓤 H 𝓜 𝓡 code.env)) sp (λ κs. (mut-tells (named 0) (κs .0) T.the-row, (EL.tells Break.the-type Break′.the-laws, (shr-slice-tells (named 1) (κs .1 .0) u8, (uint-tells w8, tt)))))
     (λ κs qs bounds a g are. via 𝓤 _ (fst∗ 𝓤 _ (emp 𝓤)) (
     walk 𝓤 H (𝓖 .A) (givenOf 𝓤 H 𝓜 𝓖) (𝓜 .mem) (𝓡 .run) κs qs a are (tables 𝓤 H 𝓜 𝓡 code.env .C) (tables 𝓤 H 𝓜 𝓡 code.env .Λ) (fmOf 𝓤 H (givenOf 𝓤 H 𝓜 𝓖 .laws) (tablesOf 𝓤 H 𝓜 (tables 𝓤 H 𝓜 𝓡 code.env)))
     (cited 𝓤 H (Core 𝓤 H (𝓖 .A) (𝓜 .mem) (𝓡 .run)) 𝓜 𝓡 code.env #reconnects·failed-attempt core-def.routine code.calls-reconnects·failed-attempt (core-thm.met 𝓤 H 𝓜 𝓖 𝓡)))))

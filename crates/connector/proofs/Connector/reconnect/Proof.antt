@@ -1,13 +1,11 @@
 -- `connector::Connector::reconnect` meets its contract: one call after the other.
 use borrow.Author.Needs.{needs}
 use mathlib.Core.Path.{ap, _∙_}
-use mathlib.Core.Bool.{Bool}
 use mathlib.Core.Option.{some}
-use Rattle.rules.specs.Message as M
 use Rattle.rules.specs.Session.{Connector}
 use Rattle.rules.specs.Respond.{progress}
 use Rattle.rules.specs.Reconnect.{rerouted, attempted}
-use Rattle.bidi_write.specs.View.{breakOf}
+use Rattle.redirect.specs.Detail.{redirectAt}
 use Rattle.connector.specs.View.{connectorOf}
 use Rattle.connector.proofs.Connector.reconnect.Statement.{statement}
 use Rattle.connector.proofs.Connector.reconnect.Tie as tie
@@ -18,25 +16,19 @@ handle-redirect-requires c κs = search needs
 progress-requires : tie.Need-progress-requires
 progress-requires c κs = search needs
 
-is-redirect-requires : tie.Need-is-redirect-requires
-is-redirect-requires c κs = search needs
-
 count-attempt-requires : tie.Need-count-attempt-requires
 count-attempt-requires c κs = search needs
 
 returns : tie.Need-returns
 returns c =
-    let at-progress = c .before .before in
+    let at-progress = c .before in
     let at-redirect = at-progress .before in
-    let start = at-redirect .before .before .before in
-    let a = start .args in
-    let b = breakOf (a .b) (a .token .now) (a .handle .now) in
-    let n = a .persisted .0 in (
+    let start = at-redirect .before .before in
+    let a = start .args in (
       c .count-attempt .ensures .0
-          ∙ ap (λ (x : Connector). attempted (c .before .is-redirect .result) x)
-          (at-progress .progress .ensures .0 ∙ ap (λ (x : Connector). progress (some n) x) {y = rerouted (M.redirectIn b) (connectorOf (a .self))} (at-redirect .handle-redirect .ensures .0))
-          ∙ ap (λ (t : Bool). attempted t (progress (some n) (rerouted (M.redirectIn b) (connectorOf (a .self)))))
-          (c .before .is-redirect .ensures (a .token .now) (a .handle .now)),
+          ∙ ap (λ (x : Connector). attempted (a .redirect) x)
+          (at-progress .progress .ensures .0
+          ∙ ap (λ (x : Connector). progress (some (a .persisted .0)) x) {y = rerouted (redirectAt (a .d) (a .value .now)) (connectorOf (a .self))} (at-redirect .handle-redirect .ensures .0)),
       λ fits. c .count-attempt .ensures .1 (at-progress .progress .ensures .1 (at-redirect .handle-redirect .ensures .1 fits)),
     )
 
@@ -46,6 +38,5 @@ reconnect-spec =
     (tie.spec
     handle-redirect-requires
     progress-requires
-    is-redirect-requires
     count-attempt-requires
     returns)

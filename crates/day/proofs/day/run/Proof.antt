@@ -6,11 +6,11 @@ use Rattle.day.proofs.day.run.Statement.{statement}
 use Rattle.day.proofs.day.run.Tie as tie
 
 abbrev Inv-loop : tie.InvT-loop
-Inv-loop seed breaks store₀ table₀ out₀ message₀ event₀ s₀ w₀ calls₀ t18 t19 store table out message event s w calls =
+Inv-loop seed breaks store₀ table₀ out₀ message₀ event₀ s₀ w₀ calls₀ detail parts handle store table out message event s w calls =
     (length store ≡ 24574) × (length table ≡ 64) × (length out ≡ 4096) × (length message ≡ 4135) × (length event ≡ 9000)
 
 abbrev μ-loop : tie.MeasureT-loop
-μ-loop seed breaks store₀ table₀ out₀ message₀ event₀ s₀ w₀ calls₀ t18 t19 store table out message event s w calls = calls
+μ-loop seed breaks store₀ table₀ out₀ message₀ event₀ s₀ w₀ calls₀ detail parts handle store table out message event s w calls = calls
 
 slice-aggregate-open : tie.Need-slice-aggregate-open Inv-loop μ-loop
 slice-aggregate-open c = search needs
@@ -42,6 +42,21 @@ slice-aggregate-rest c = search needs
 rest-requires : tie.Need-rest-requires Inv-loop μ-loop
 rest-requires c κs = search needs
 
+slice-aggregate-either : tie.Need-slice-aggregate-either Inv-loop μ-loop
+slice-aggregate-either c = search needs
+
+slice-aggregate-either-2 : tie.Need-slice-aggregate-either-2 Inv-loop μ-loop
+slice-aggregate-either-2 c = search needs
+
+either-requires : tie.Need-either-requires Inv-loop μ-loop
+either-requires c κs = search needs
+
+slice-aggregate-beside : tie.Need-slice-aggregate-beside Inv-loop μ-loop
+slice-aggregate-beside c = search needs
+
+beside-requires : tie.Need-beside-requires Inv-loop μ-loop
+beside-requires c κs = search needs
+
 slice-aggregate-step : tie.Need-slice-aggregate-step Inv-loop μ-loop
 slice-aggregate-step c = search needs
 
@@ -51,12 +66,6 @@ slice-aggregate-step-2 c = search needs
 slice-aggregate-step-3 : tie.Need-slice-aggregate-step-3 Inv-loop μ-loop
 slice-aggregate-step-3 c = search needs
 
-slice-aggregate-step-4 : tie.Need-slice-aggregate-step-4 Inv-loop μ-loop
-slice-aggregate-step-4 c = search needs
-
-slice-aggregate-step-5 : tie.Need-slice-aggregate-step-5 Inv-loop μ-loop
-slice-aggregate-step-5 c = search needs
-
 step-requires : tie.Need-step-requires Inv-loop μ-loop
 step-requires c κs = search needs
 
@@ -64,7 +73,7 @@ slice-aggregate-heard : tie.Need-slice-aggregate-heard Inv-loop μ-loop
 slice-aggregate-heard c = search needs
 
 slice-aggregate-heard-2 : tie.Need-slice-aggregate-heard-2 Inv-loop μ-loop
-slice-aggregate-heard-2 c = sym (c .before .before .before .before .before .before .before .before .before .before .before .before .before .before .before .before .before .before .before .loop .inv .3)
+slice-aggregate-heard-2 c = sym (c .before .before .before .before .before .before .before .before .before .before .before .before .before .before .before .before .before .before .before .before .before .before .before .loop .inv .3)
 
 heard-requires : tie.Need-heard-requires Inv-loop μ-loop
 heard-requires c κs =
@@ -73,14 +82,14 @@ heard-requires c κs =
     omega (arith, made .step .ensures .sent-in, out .out2 .given)
 
 sub-calls-left : tie.Need-sub-calls-left Inv-loop μ-loop
-sub-calls-left c = omega (arith, c .before .before .before .before .before .before .before .before .before .before .before .before .before .before .before .before .before .before .before .before .loop-test .taken)
+sub-calls-left c = omega (arith, c .before .before .before .before .before .before .before .before .before .before .before .before .before .before .before .before .before .before .before .before .before .before .before .before .loop-test .taken)
 
 calls-left-requires : tie.Need-calls-left-requires Inv-loop μ-loop
 calls-left-requires c κs = search needs
 
 loop-less : tie.Need-loop-less Inv-loop μ-loop
 loop-less c =
-    let turn = c .before .before .before .before .before .before .before .before .before .before .before .before .before .before .before .before .before .before .before .before .before in
+    let turn = c .before .before .before .before .before .before .before .before .before .before .before .before .before .before .before .before .before .before .before .before .before .before .before .before .before in
     omega (arith, c .calls-left .ensures, turn .loop-test .taken)
 
 loop-again : tie.Need-loop-again Inv-loop μ-loop
@@ -89,7 +98,7 @@ loop-again c =
     let out = message .before .before .before .before .before in
     let table = out .before in
     let store = table .before in
-    let event = store .before .before .before .before .before .before .before .before .before .before in
+    let event = store .before .before .before .before .before .before .before .before .before .before .before .before .before .before in
     let inv = event .before .before .before .before .loop .inv in (
       omega (arith, store .store4 .given, inv .0),
       omega (arith, table .table4 .given, inv .1),
@@ -117,11 +126,14 @@ run-spec =
     next-requires
     slice-aggregate-rest
     rest-requires
+    slice-aggregate-either
+    slice-aggregate-either-2
+    either-requires
+    slice-aggregate-beside
+    beside-requires
     slice-aggregate-step
     slice-aggregate-step-2
     slice-aggregate-step-3
-    slice-aggregate-step-4
-    slice-aggregate-step-5
     step-requires
     slice-aggregate-heard
     slice-aggregate-heard-2

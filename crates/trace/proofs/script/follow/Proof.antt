@@ -70,12 +70,6 @@ returns c = search needs
 text-of-requires : tie.Need-text-of-requires Inv-loop μ-loop
 text-of-requires c κs = search needs
 
-text-of-requires-2 : tie.Need-text-of-requires-2 Inv-loop μ-loop
-text-of-requires-2 c κs = search needs
-
-text-of-requires-3 : tie.Need-text-of-requires-3 Inv-loop μ-loop
-text-of-requires-3 c κs = search needs
-
 step-requires : tie.Need-step-requires Inv-loop μ-loop
 step-requires c κs = search needs
 
@@ -90,7 +84,7 @@ last-requires c κs = search needs
 loop-less : tie.Need-loop-less Inv-loop μ-loop
 loop-less c =
     let made = c .before .before .before .before .before .before .before .before .before .before .before .before .before in
-    let wrote = made .before .before .before .before .before .before .before .before .before .before .before .before .before .before .before .before .before .before .before in
+    let wrote = made .before .before .before .before .before .before .before .before .before .before .before .before .before .before .before in
     let turn = wrote .before .before .before .before .before .before .before .before .before .before in
     search (needs, turn)
 
@@ -98,7 +92,7 @@ loop-again : tie.Need-loop-again Inv-loop μ-loop
 loop-again c =
     let said = c .before .before .before in
     let made = said .before .before .before .before .before .before .before .before .before .before in
-    let wrote = made .before .before .before .before .before .before .before .before .before .before .before .before .before .before .before .before .before .before .before in
+    let wrote = made .before .before .before .before .before .before .before .before .before .before .before .before .before .before .before in
     let shown = wrote .before .before .before .before .before .before in
     let turn = shown .before .before .before .before .before in (
       wrote .writes .kept .0 ∙ turn .loop .inv .0,
@@ -148,8 +142,6 @@ follow-spec =
     same-length-5
     returns
     text-of-requires
-    text-of-requires-2
-    text-of-requires-3
     step-requires
     answer-requires
     last-requires
