@@ -3,13 +3,15 @@ its bytes, whose fields may come in any order, stands on one side the request ha
 
 Intended differences that a script can show:
 
-- `?`: the crate has no answer, and the oracle's lines end there with the reason. Names and tokens that are not UTF-8: the crate has them as `String`. A bare
-  flush on a connection whose sends fail that the host does not report failed: the crate knows of the failure, the session does not. What comes before is
-  compared.
+- `?`: the crate has no answer, and the oracle's lines end there with the reason. Names and tokens of an opening that are not UTF-8: the crate has them as
+  `String`. A bare flush on a connection whose sends fail that the host does not report failed: the crate knows of the failure, the session does not. What
+  comes before is compared.
+
+One that the oracle hides, since its driver answers 15 as the port does: to the crate a malformed redirect detail is none, and one with a group is a redirect.
 
 Others can't be shown by a script: the attempt number at 2^32 - 1, which the crate's would pass, and 2^64 - 1 waiters. docs/DIFFERENCES.md has all of them.
 
-Intended differences in what bytes read as, which the examples show:
+Intended differences in what bytes read as, which the examples show, and `compare --details` counts:
 
 - a group, wire types 3 and 4: the crate's decoder skips one whose number it does not know; here it is malformed.
 """

@@ -1,8 +1,10 @@
-"""Document 01's boundary cases, and those of written requests, as scripts: for each its name, its calls, and what its opening has that the others have not.
+"""Document 01's boundary cases, and those of written requests and of redirect details, as scripts: for each its name, its calls, and what its opening has that
+the others have not.
 
 A call is the mark of its record (docs/TRACE.md) and what it brings, as in docs/DIFFERENCES.md. AP has the bytes, the letters of their offsets from a to z and
 again. RS and HS have a size or none, and `resource` or `finalised` where a resource holds it, or `handle` and the length of one. BR, and FA behind its verdict,
-have a word of BREAKS, or none for an end of stream. WB has the lengths of buffer and data.
+have a word of BREAKS, or none for an end of stream, or the code of a status and the value of a redirect detail in hexadecimal. WB has the lengths of buffer and
+data.
 
 No record says what the program `extremes` has: C and capacity at 2^64 - 1, bytes of a handle or a token that is not given, a call after a refused opening, the
 attempt number at 2^32 - 1, and the 2^64 - 1st waiter.
@@ -10,7 +12,8 @@ attempt number at 2^32 - 1, and the 2^64 - 1st waiter.
 
 import dataclasses
 
-from .calls import BUCKET, Append, Break, FailedAttempt, Handshake, Opening, Plain, Redirect, Response, Script, Verdict, Write
+from .calls import BUCKET, Append, Break, FailedAttempt, Handshake, Opening, Plain, Response, Script, Verdict, Write
+from .details import FIXED32, FIXED64, MOST, NOT_TEXT, PART, VARINT, content, field, generation, handle, key, token, value, varint
 from .messages import length
 from .moves import ABORTED, HIGH, LOW
 
@@ -21,12 +24,17 @@ BREAKS = {
     "error": Break(2),
     "unavailable": Break(1, UNAVAILABLE),
     "aborted": Break(1, ABORTED),
-    "detail": Break(1, UNAVAILABLE, Redirect(b"t", b"h")),
-    "redirect": Break(1, ABORTED, Redirect(b"t", b"h")),
-    "empty redirect": Break(1, ABORTED, Redirect()),
-    "longest": Break(1, ABORTED, Redirect(b"t" * 512, b"h" * 1024)),
-    "token 513": Break(1, ABORTED, Redirect(b"t" * 513, b"")),
-    "handle 1025": Break(1, ABORTED, Redirect(b"", b"h" * 1025)),
+    "detail": Break(1, UNAVAILABLE, value(b"t", b"h")),
+    "redirect": Break(1, ABORTED, value(b"t", b"h")),
+    "empty redirect": Break(1, ABORTED, value()),
+    "longest": Break(1, ABORTED, value(b"t" * 512, b"h" * 1024)),
+    "token 513": Break(1, ABORTED, value(b"t" * 513, b"")),
+    "handle 1025": Break(1, ABORTED, value(b"", b"h" * 1025)),
+    # a group of nothing, alone and behind what is too long
+    "malformed": Break(1, ABORTED, b"\x23\x24"),
+    "malformed detail": Break(1, UNAVAILABLE, b"\x23\x24"),
+    "malformed and token 513": Break(1, ABORTED, value(b"t" * 513, b"") + b"\x23\x24"),
+    "malformed and handle 1025": Break(1, ABORTED, value(b"", b"h" * 1025) + b"\x23\x24"),
 }
 # C 4, capacity 9 and P 0; the store and the out buffer are the shortest that these take
 OPENING = Opening(chunk=4, capacity=9, generation=1, response=Response(0), store=15, slots=8, out=4)
@@ -48,15 +56,22 @@ def call(text):
     if mark in ("RS", "HS"):
         return message({"RS": Response, "HS": Handshake}[mark], more.split())
     if mark == "BR":
-        return BREAKS[more]
+        return broken(more)
     if mark == "VE":
         return Verdict(int(more))
     if mark == "WB":
         return Write(*(int(n) for n in more.split()))
     if mark == "FA":
         verdict, _, how = more.partition(" ")
-        return FailedAttempt(int(verdict), BREAKS[how])
+        return FailedAttempt(int(verdict), broken(how))
     return Plain(mark.encode())
+
+
+def broken(text):
+    if text in BREAKS:
+        return BREAKS[text]
+    code, detail = text.split()
+    return Break(1, int(code), bytes.fromhex(detail))
 
 
 def message(kind, words):
@@ -280,6 +295,118 @@ REDIRECTS = [
     case("failed attempt, verdict 0, 5, 2", "BR, VE 1, FA 0 error, FA 5 error, FA 2 error"),
 ]
 
+
+def read(name, *values):
+    """Each is taken with another code than Aborted, the first by a break, all by failed attempts, which are no redirects then. The last by a redirect too."""
+    attempts = "".join(f"FA 1 {UNAVAILABLE} {v}, " for v in hexes(values))
+    calls = f"BR {UNAVAILABLE} {hexes(values)[0]}, VE 1, {attempts}HS, NX, BR {ABORTED} {hexes(values)[-1]}"
+    return case(f"detail, {name}", calls, token=b"o", handle=b"o")
+
+
+def refused(name, *values):
+    """each by a break, and by a failed attempt"""
+    breaks, attempts = ("".join(f"{mark} {ABORTED} {v}, " for v in hexes(values)) for mark in ("BR", "FA 1"))
+    return case(f"malformed, {name}", f"{breaks}BR, VE 1, {attempts}FA 1 redirect")
+
+
+def hexes(values):
+    """of bytes, or of hexadecimal digits with spaces"""
+    return [v.hex() if isinstance(v, bytes) else v.replace(" ", "") for v in values]
+
+
+def aborted(*parts):
+    """a break with this detail"""
+    return f"BR {ABORTED} {b''.join(parts).hex()}"
+
+
+# zero in ten bytes and in eleven, and 2^64
+TEN, ELEVEN, OVER = varint(0, 10), varint(0, 11), b"\x80" * 9 + b"\x02"
+MOST_BITS = b"\xff" * 9 + b"\x01"
+FIXED = [field(4, FIXED64, bytes(8)), field(4, FIXED32, bytes(4))]
+CHARACTERS = [bytes.fromhex(h) for h in "c280 dfbf e0a080 e0bfbf ecbfbf ed9fbf ee8080 efbfbf f0908080 f0bfbfbf f3bfbfbf f48fbfbf 207f".split()]
+
+# What details read as.
+READINGS = [
+    read("a field", token(b"t"), handle(content(b"h")), token(b""), *(generation(n) for n in (0, 2, -1, LOW, HIGH))),
+    read("any order", generation(2) + handle(content(b"h")) + token(b"t"), handle(content(b"i")) + token(b"u") + generation(3)),
+    read("token again", token(b"t") + token(b"u"), token(b"u") + generation(2) + token(b"")),
+    read("generation again", generation(2) + generation(3), generation(2) + token(b"t") + generation(0)),
+    read(
+        "handle again",
+        handle(content(b"h")) + handle(content(b"i")),
+        handle(content(b"h")) + handle(),
+        handle() + handle(content(b"i")),
+        handle(content(b"h")) + handle(content(b"")),
+        handle(content(b"i")) + token(b"t") + handle(field(2, VARINT, 1)) + handle(),
+        handle(content(b"h"), content(b"i")),
+        handle(),
+    ),
+    read("a handle without bytes", handle(field(2, VARINT, 1))),
+    read("unknown fields", token(b"t") + field(4, VARINT, 1), FIXED[0] + token(b"u") + FIXED[1], field(4, PART, b"\x23") + generation(2), "22 00"),
+    read("unknown fields in the handle", handle(field(2, VARINT, 1), content(b"h"), *FIXED), handle(field(3, PART, b"\x23"), content(b"i"))),
+    read("number 2^29 - 1", field(MOST, VARINT, 1) + token(b"t"), handle(field(MOST, PART, b""), content(b"h")) + field(MOST, FIXED32, bytes(4))),
+    read(
+        "varints of ten bytes",
+        b"\x18" + TEN,
+        b"\x18" + varint(LOW),
+        b"\x18" + MOST_BITS,
+        field(1, PART, b"t", (10, 10)),
+        handle(field(1, PART, b"h", (10, 10))),
+        field(2, PART, content(b"i"), (10, 10)) + field(3, VARINT, 5, (10, 10)),
+        b"\x20" + MOST_BITS,
+    ),
+    read("characters at their borders", *(token(c) for c in CHARACTERS)),
+    read("not UTF-8 but in the token", handle(content(b"\xff")) + field(4, PART, b"\xff")),
+]
+
+# Refusal 15: each way to be malformed, in the message and in the handle.
+MALFORMED = [
+    refused("a group", "23 24", "0a 01 74 2b 2c", "23 20 01 24", "2b 2b 2c 2c", "0b 0c", "13 14", "1b 1c", "23", "24", "0c", "23 2c"),
+    refused("a group in the handle", "12 02 13 14", "12 02 0b 0c", "12 05 0a 01 68 13 14", "12 01 13", "12 01 14", "12 01 13 14", "12 02 13 14 12 00"),
+    refused("wire types 6 and 7", "26", "27", "26 00", "0e 00", "1f 00", "06", "12 01 0e", "12 01 17"),
+    refused("type of the token", "08 01", field(1, FIXED64, bytes(8)), field(1, FIXED32, bytes(4)), token(b"t") + field(1, VARINT, 0)),
+    refused("type of the handle", "10 01", field(2, FIXED64, bytes(8)), field(2, FIXED32, bytes(4))),
+    refused("type of the generation", "1a 00", "1a 01 05", field(3, FIXED64, bytes(8)), field(3, FIXED32, bytes(4))),
+    refused("type of the handle's bytes", handle(b"\x08\x01"), handle(field(1, FIXED64, bytes(8))), handle(field(1, FIXED32, bytes(4)))),
+    refused("number 0", "00 00", "02 00", field(0, FIXED64, bytes(8)), field(0, FIXED32, bytes(4)), "00", "12 02 00 00", "12 02 02 00"),
+    refused("number 2^29", *(field(MOST + n, VARINT, 0) for n in (1, 2, 3, 4)), field(2**61 - 1, PART, b""), handle(field(MOST + 1, VARINT, 0))),
+    refused("number past 32 bits", field(2**32 + 1, PART, b"t"), handle(field(2**32 + 1, PART, b"h"))),
+    refused("64 bits", *(k + OVER for k in (b"\x18", b"\x20", b"\x0a", b"\x22", b"")), b"\x18" + MOST_BITS[:-1] + b"\x02", b"\x98" + OVER[1:] + b"\x05"),
+    refused("64 bits in the handle", *(handle(k + OVER) for k in (b"\x10", b"\x0a", b"\x12", b"")), handle(b"\x8a" + OVER[1:] + b"\x00")),
+    refused("eleven bytes", *(k + ELEVEN for k in (b"\x18", b"\x20", b"\x0a", b"\x22", b"")), b"\x98" + ELEVEN[1:] + b"\x05"),
+    refused("eleven bytes in the handle", *(handle(k + ELEVEN) for k in (b"\x10", b"\x0a", b"\x12", b"")), handle(b"\x8a" + ELEVEN[1:] + b"\x00")),
+    refused("not UTF-8", *(token(t) for t in NOT_TEXT)),
+    refused("not UTF-8, one of two tokens", token(b"\x80") + token(b"t"), token(b"t") + token(b"\xed\xa0\x80"), token(b"\xff") + token(b"")),
+    refused("cut off", "0a", "0a 01", "0a 02 74", "8a", "0a 81", "12", "12 01", "12 03 0a 01", "18", "18 80", "20", "22 01", "22 80"),
+    refused("cut off, eight and four bytes", key(4, FIXED64), FIXED[0][:-1], key(4, FIXED32), FIXED[1][:-1]),
+    refused("cut off in the handle", "12 01 0a", "12 02 0a 01", "12 02 0a 01 68", "12 01 10", "12 02 10 80", "12 02 10 80 00", "12 03 0a 02 68 68"),
+    refused("cut off in the handle, eight and four bytes", handle(FIXED[0][:-1]) + b"\x00", handle(FIXED[1][:-1]) + b"\x00"),
+    refused("longest lengths", *(k + MOST_BITS for k in (b"\x0a", b"\x12", b"\x22")), "0a ff ff ff ff 0f", "0a ff ff ff ff 07", "22" + "ff" * 8 + "7f"),
+    case("malformed, any code", "BR 0 23, BR 1 23, BR malformed detail, BR 16 23, BR 17 23, BR 4294967295 23, BR, VE 1, FA 1 0 23, FA 1 malformed detail"),
+    case("malformed, nothing changes", "AP abcd, AP ef, BR malformed, FL, BR malformed, FL, RS 4, BR unavailable, VE 1, FA 1 malformed, HS 4, NX, NX, NX"),
+    case("malformed between a send and its failure", "AP abcd, BR malformed, WB 99 4, SF, BR malformed, SF"),
+    case("malformed, finished", "FI, RS 0 finalised, BR malformed, BR"),
+]
+
+# The order 7, 6, 13, 15, 4, and the bounds that 4 has for what is read.
+DETAILED = [
+    case("7 before 15", "RS -1, BR malformed, FA 1 malformed, FA 0 malformed, BR token 513"),
+    case("6 before 15, break", "BR, BR malformed, VE 1, BR malformed, HS, BR malformed, NX, BR malformed"),
+    case("6 before 15, failed attempt", "FA 1 malformed, FA 0 malformed, CL, FA 1 malformed, BR malformed, BR token 513, BR"),
+    case("6 before 4, failed attempt", "FA 1 token 513, BR, FA 1 handle 1025, VE 1, FA 1 handle 1025, FA 1 longest"),
+    case("13 before 15", "BR, VE 1, FA 0 malformed, FA 5 malformed, FA 0 token 513, FA 1 malformed"),
+    case("15 before 4", "BR malformed and token 513, BR malformed and handle 1025, BR token 513, BR handle 1025, BR longest"),
+    case("15 before 4, failed attempt", "BR, VE 1, FA 1 malformed and token 513, FA 1 malformed and handle 1025, FA 1 token 513, FA 1 handle 1025"),
+    case("15 and 4 with another code", f"BR malformed detail, BR 14 {value(b't' * 513).hex()}, BR 14 {value(None, b'h' * 1025).hex()}, BR detail"),
+    case("token of 257, 256 characters of two bytes", f"{aborted(token('é'.encode() * 257))}, {aborted(token('é'.encode() * 256))}"),
+    case("token 513, then another", f"{aborted(token(b't'), token(b'u' * 513))}, {aborted(token(b't' * 513), token(b'u'))}"),
+    case("handle 1025, then no bytes", aborted(handle(content(b"h" * 1025)), handle())),
+    case("handle 1, then 1025", aborted(handle(content(b"h")), handle(content(b"i" * 1025)))),
+    case("handle 1025, then 1", aborted(handle(content(b"h" * 1025)), handle(content(b"i")))),
+    case("handle 1024 beside unknown fields", aborted(handle(field(2, PART, bytes(900)), content(b"h" * 1024), field(3, PART, bytes(900))))),
+    case("detail of 4000 bytes", aborted(field(4, PART, bytes(3990)), value(b"t", b"", 7))),
+]
+
 # A send reported failed. A bare flush behind it on the same connection fails too in the crate, so it is reported.
 FAILURES = [
     case("failed after a chunk", "AP a, AP bcde, SF, SF, FL"),
@@ -337,3 +464,4 @@ WRITTEN = [
 ]
 
 CASES = OPENINGS + LENGTHS + PHASES + ENDED + CLOSED + ROOM + SIZES + FINALS + PAYLOADS + RINGS + ATTEMPTS + REDIRECTS + FAILURES + WRITTEN
+CASES += READINGS + MALFORMED + DETAILED

@@ -3,6 +3,8 @@
 import dataclasses
 import struct
 
+from . import details
+
 BUCKET = b"projects/_/buckets/b"
 
 
@@ -70,32 +72,31 @@ class Handshake(Response):
 
 
 @dataclasses.dataclass(frozen=True)
-class Redirect:
-    token: bytes | None = None
-    handle: bytes | None = None
-    generation: int | None = None
-
-    def fields(self):
-        return opt(self.token, string) + opt(self.handle, string) + opt(self.generation, i64)
-
-
-@dataclasses.dataclass(frozen=True)
 class Break(Record):
     # 0 end of stream, 1 status, 2 another error
     kind: int = 0
     code: int = 0
-    redirect: Redirect | None = None
+    # the value of a redirect detail as received
+    detail: bytes | None = None
 
     mark, name = b"BR", "break"
 
     def fields(self):
         if self.kind != 1:
             return bytes([self.kind])
-        return b"\1" + u32(self.code) + opt(self.redirect, Redirect.fields)
+        return b"\1" + u32(self.code) + opt(self.detail, string)
 
     def words(self):
         how = {0: "end of stream", 1: f"status {self.code}", 2: "another error"}[self.kind]
-        return f"{self.name}: {how}" + ("" if self.redirect is None else f", redirect {shown(self.redirect)}")
+        return f"{self.name}: {how}" + ("" if self.detail is None else f", detail {self.detail.hex() or 'of no bytes'} ({self.reading()})")
+
+    def redirect(self):
+        """what the detail reads as; None where there is none, or it is malformed"""
+        return None if self.detail is None else details.read_or_none(self.detail)
+
+    def reading(self):
+        redirect = self.redirect()
+        return f"malformed: {details.fault(self.detail)}" if redirect is None else redirect.shown()
 
 
 @dataclasses.dataclass(frozen=True)

@@ -40,16 +40,20 @@ class Example:
 
 def read(text):
     """the examples of a file; ValueError where one has another form"""
-    found, comment, lines = [], None, text.splitlines()
+    return [example(*stated) for stated in statements(text, ("readRequest ", "wire "))]
+
+
+def statements(text, words):
+    """line, statement and comment of each that has one of the words"""
+    comment, lines = None, text.splitlines()
     for i, line in enumerate(lines):
         if line.startswith(CRATE):
             comment = line.removeprefix(CRATE)
         elif re.match(r"[^\s-]\S* :(\s|$)", line):
             whole = statement(lines, i)
-            if "readRequest " in whole or "wire " in whole:
-                found.append(example(i + 1, whole, comment))
+            if any(word in whole for word in words):
+                yield i + 1, whole, comment
             comment = None
-    return found
 
 
 def statement(lines, i):

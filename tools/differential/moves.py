@@ -4,8 +4,9 @@ that its calls hand out are written, with buffers around the length of the messa
 import itertools
 import re
 
+from . import details
 from .agree import calls as calls_of
-from .calls import CLOSE, FINALISE, FLUSH, NEXT, SEND_FAILED, Append, Break, FailedAttempt, Handshake, Opening, Redirect, Response, Script, Verdict, Write
+from .calls import CLOSE, FINALISE, FLUSH, NEXT, SEND_FAILED, Append, Break, FailedAttempt, Handshake, Opening, Response, Script, Verdict, Write
 from .messages import needs
 
 LOW, HIGH = -(2**63), 2**63 - 1
@@ -153,15 +154,17 @@ def size(rng, s):
 
 def stream_break(rng, redirects=0.3):
     if rng.random() < redirects:
-        return Break(1, ABORTED, redirect(rng))
-    return rng.choice([Break(0), Break(0), Break(2), Break(1, rng.choice([0, 2, ABORTED, 14, 16, 17, 2**32 - 1])), Break(1, 14, redirect(rng))])
+        return Break(1, ABORTED, detail(rng))
+    return rng.choice([Break(0), Break(0), Break(2), Break(1, rng.choice([0, 2, ABORTED, 14, 16, 17, 2**32 - 1])), Break(1, 14, detail(rng))])
 
 
-def redirect(rng):
-    token, handle = rng.choice([None, b"", b"u", b"v"]), rng.choice([None, None, b"", b"\x77"])
-    if rng.random() < 0.005:
-        token, handle = rng.choice([(b"t" * 512, b"h" * 1024), (b"t" * 513, None), (None, b"h" * 1025)])
-    return Redirect(token, handle, rng.choice([None, None, 0, 11, -3]))
+def detail(rng):
+    """a value as received, seldom malformed; none whose token has control characters, which would break the lines that show it"""
+    while True:
+        found = details.malformed(rng) if rng.random() < 0.08 else details.well_made(rng)
+        redirect = details.read_or_none(found)
+        if redirect is None or not redirect.token or min(redirect.token) >= 32:
+            return found
 
 
 def verdict(rng):
@@ -192,7 +195,7 @@ def ask_often(rng, s):
     calls = []
     for _ in range(rng.choice([2, 3, 17])):
         calls += [FLUSH] + ([Append(rng.randbytes(rng.randint(1, min(s.limit, 40)))), FLUSH] if rng.random() < 0.4 else [])
-    return calls
+    return calls + rng.choice([[], [], [FINALISE]])
 
 
 def report(rng, s):

@@ -6,7 +6,8 @@ Each part gives lists of what the port shows, and of what the crate's own functi
 import itertools
 import re
 
-from .calls import Append, Break, FLUSH, Opening, Redirect, Response, Script
+from .calls import Append, Break, FLUSH, Opening, Response, Script
+from .details import FULL, value
 
 RUN = re.compile(rb" run=(\w+) ")
 CHUNKS = re.compile(rb" chunks=\[(.*?)\]")
@@ -31,7 +32,7 @@ def sums(rng, oracle, port):
 def redirects(rng, oracle, port):
     """every code and every detail, on every spec"""
     specs = itertools.product([None, b"t"], [None, b"\x01"], [0, 7])
-    details = [None] + [Redirect(*d) for d in itertools.product([None, b"", b"u"], [None, b"", b"\x02"], [None, 0, 8])]
+    details = [None] + [value(*d) for d in itertools.product([None, b"", b"u"], [None, b"", b"\x02"], [None, 0, 8])] + list(FULL.values())
     codes = [*range(18), 2**31, 2**32 - 1]
     scripts = [
         Script([Opening(token=t, handle=h, generation=g, response=Response(0)), Break(1, code, detail)])

@@ -1,8 +1,12 @@
 """Runs scripts through a program that reads docs/TRACE.md's records."""
 
+import re
 import subprocess
 
 from .messages import handed_out, read_back
+
+# behind a script; a token may hold an empty line too
+END = re.compile(rb"\n\n(?=OP |\Z)")
 
 
 class Program:
@@ -23,7 +27,7 @@ class Program:
 
     def run(self, scripts):
         """the output for each script, without the empty line behind it; nothing where the program failed before"""
-        found = self.raw(b"".join([s.data + b"EN" for s in scripts])).split(b"\n\n")
+        found = END.split(self.raw(b"".join([s.data + b"EN" for s in scripts])))
         return (found + [b""] * len(scripts))[: len(scripts)]
 
 

@@ -2,6 +2,7 @@
 
 import re
 
+from . import details
 from .agree import calls as calls_of
 from .calls import Append, Opening
 from .messages import needs
@@ -20,9 +21,9 @@ REFUSED = {
     "CL": [6, 7, 8],
     "RS": [4, 6, 7],
     "HS": [4, 6, 7],
-    "BR": [4, 6, 7],
+    "BR": [4, 6, 7, 15],
     "VE": [6, 7, 13],
-    "FA": [4, 6, 7, 13],
+    "FA": [4, 6, 7, 13, 15],
     "NX": [6, 7, 11],
     "SF": [6, 7],
 }
@@ -60,12 +61,19 @@ OTHERS = [
     "WB E14: data one short", "WB - behind OP", "WB - behind another call", "WB - behind SF", "WB - behind an empty append", "WB - behind the end",
     "WB behind refused", "failed send behind WB",
 ]  # fmt: skip
+FAULTS = ["group", "wire type 6 or 7", "wrong type", "number", "varint", "cut off"]
+DETAILS = [
+    *(f"E15: {fault}{where}" for fault in FAULTS for where in ("", " in the handle")), "E15: not UTF-8", "E15: not UTF-8 before the last token",
+    "E15: token too long too", "E15 without Aborted", "E4: token", "E4: handle", "E4: handle's bytes kept", "E4 without Aborted",
+    *(f"detail: {trait}" for trait in details.TRAITS),
+]  # fmt: skip
 FEATURES = (
     OPENING
     + [f"{mark} E{n}" for mark, numbers in REFUSED.items() for n in numbers]
     + [f"{mark} in {phase}" for phase, marks in ACCEPTED.items() for mark in marks]
     + [f"end: {end}" for end in ENDS]
     + OTHERS
+    + DETAILS
 )
 
 
@@ -113,6 +121,8 @@ def reached(script, output):
         if answer.startswith("E"):
             found.add(f"{mark} {answer}")
             found.add(f"{mark} {answer}: {'slots' if before.held else 'waiters'}")
+            if mark in ("BR", "FA") and answer in REFUSED_DETAILS:
+                found |= REFUSED_DETAILS[answer](call if mark == "BR" else call.error)
             between = "failed send behind refused"
             continue
         if mark == "AP" and not call.data:
@@ -277,8 +287,36 @@ def responded(mark, r, answer, before, after):
     return {name for name, holds in rules.items() if holds}
 
 
+def malformed(b):
+    """of a break that refusal 15 is given for"""
+    why, tokens = details.fault(b.detail), details.tokens(b.detail)
+    rules = {
+        f"E15: {why}": True,
+        "E15: not UTF-8 before the last token": why == "not UTF-8" and tokens[-1].isascii(),
+        "E15: token too long too": any(len(t) > 512 for t in tokens),
+        "E15 without Aborted": b.code != ABORTED,
+    }
+    return {name for name, holds in rules.items() if holds}
+
+
+def too_long(b):
+    """of a break that refusal 4 is given for"""
+    r = b.redirect()
+    long_handle = len(r.handle or b"") > 1024
+    rules = {
+        "E4: token": len(r.token or b"") > 512,
+        "E4: handle": long_handle,
+        "E4: handle's bytes kept": long_handle and "handle's bytes kept" in details.traits(b.detail),
+        "E4 without Aborted": b.code != ABORTED,
+    }
+    return {name for name, holds in rules.items() if holds}
+
+
+REFUSED_DETAILS = {"E15": malformed, "E4": too_long}
+
+
 def broken(mark, b, before, after):
-    detail = b.redirect
+    detail = b.redirect()
     rules = {
         "detail without Aborted": detail is not None and b.code != ABORTED,
         "Aborted without detail": detail is None and b.kind == 1 and b.code == ABORTED,
@@ -293,7 +331,8 @@ def broken(mark, b, before, after):
         "FA by status": mark == "FA" and b.kind == 1 and detail is None,
         "FA by redirect": mark == "FA" and detail is not None and b.code == ABORTED,
     }
-    return {name for name, holds in rules.items() if holds}
+    shown = set() if detail is None else details.traits(b.detail)
+    return {name for name, holds in rules.items() if holds} | {f"detail: {trait}" for trait in shown}
 
 
 def judged(mark, call, answer, before, after):

@@ -4,7 +4,7 @@ import dataclasses
 import re
 
 from .agree import agree, first_difference
-from .calls import Append, Script
+from .calls import Append, Break, FailedAttempt, Script
 
 FIELD = re.compile(rb"\w+=(?:\[.*?\]|\S*)")
 
@@ -40,7 +40,18 @@ def simpler_calls(call):
         n = len(call.data)
         return [Append(b"a" * m) for m in (n // 2, n - 1, n) if 0 < m and (m < n or call.data != b"a" * n)]
     # an argument that is left out must not make a record longer
-    return [c for c in plainer(call) if len(c.record()) <= len(call.record())]
+    return [c for c in plainer(call) if len(c.record()) <= len(call.record())] + with_shorter_detail(call)
+
+
+def with_shorter_detail(call):
+    if isinstance(call, FailedAttempt):
+        return [dataclasses.replace(call, error=error) for error in with_shorter_detail(call.error)]
+    if not isinstance(call, Break) or not call.detail:
+        return []
+    value, most = call.detail, len(call.detail)
+    # fields are a few bytes long; of a long value large parts go first
+    runs = range(1, min(most, 8) + 1) if most <= 64 else {1, most // 8, most // 4, most // 2}
+    return [dataclasses.replace(call, detail=value[:i] + value[i + n :]) for n in runs for i in range(most - n + 1)] + [dataclasses.replace(call, detail=b"")]
 
 
 def plainer(value):

@@ -6,12 +6,14 @@
 //!   decode    a line each: HEX, and what the crate's decoder makes of it as a BidiWriteObjectRequest: the fields as in a trace's `rq` line, `malformed`,
 //!             or `another request`, one that no session sends after opening
 //!   encode    a line each: HEX, and what the crate's encoder writes for what the decoder makes of it, or `malformed`
+//!   details   a line each: HEX, and what the crate's decoder makes of it as a BidiWriteObjectRedirectedError: token and handle in hexadecimal and the
+//!             generation, and behind them `group` where there is one, or `malformed`
 //!   vectors   the records of the program `wire_vectors`: `E14`, or the count and the bytes that the crate's encoder writes
 //! In the formats of trace and bench a script ends at EN, another may follow, and an empty line is written behind it.
 use google_cloud_storage::oracle::lines::hex;
 use google_cloud_storage::oracle::records::{Format, Reader, next_script};
 use google_cloud_storage::oracle::wire::{self, Vector};
-use google_cloud_storage::oracle::{coalesced, runner};
+use google_cloud_storage::oracle::{coalesced, details, runner};
 use std::io::{Read, Write};
 
 fn main() {
@@ -25,9 +27,10 @@ fn main() {
         "coalesce" => lines(&input, coalesce),
         "decode" => lines(&input, |words| wire::read(&bytes(words[0]))),
         "encode" => lines(&input, |words| wire::write_again(&bytes(words[0]))),
+        "details" => lines(&input, |words| details::shown(&bytes(words[0]))),
         "vectors" => vectors(&input),
         _ => {
-            eprintln!("usage: oracle trace|bench|crc|coalesce|decode|encode|vectors");
+            eprintln!("usage: oracle trace|bench|crc|coalesce|decode|encode|details|vectors");
             std::process::exit(2);
         }
     }

@@ -24,24 +24,18 @@ impl Response {
     }
 }
 
-#[derive(Clone)]
-pub struct Redirect {
-    pub token: Option<Vec<u8>>,
-    pub handle: Option<Vec<u8>>,
-    pub generation: Option<i64>,
-}
-
+/// A status has the value of a redirect detail as received.
 #[derive(Clone)]
 pub enum Break {
     EndOfStream,
-    Status { code: u32, redirect: Option<Redirect> },
+    Status { code: u32, detail: Option<Vec<u8>> },
     Error,
 }
 
 impl Break {
-    pub fn redirect(&self) -> Option<&Redirect> {
+    fn detail(&self) -> Option<&[u8]> {
         match self {
-            Break::Status { redirect, .. } => redirect.as_ref(),
+            Break::Status { detail, .. } => detail.as_deref(),
             _ => None,
         }
     }
@@ -112,14 +106,19 @@ impl Call {
         }
     }
 
-    /// Whether names and tokens are UTF-8: the crate has them as `String`.
-    pub fn is_text(&self) -> bool {
-        let token = |r: Option<&Redirect>| is_text(r.and_then(|r| r.token.as_ref()));
+    /// The value of a redirect detail that it brings.
+    pub fn detail(&self) -> Option<&[u8]> {
         match self {
-            Call::Open(o) => is_text(Some(&o.bucket)) && is_text(Some(&o.object)) && is_text(o.token.as_ref()),
-            Call::Break(b) | Call::FailedAttempt(_, b) => token(b.redirect()),
-            _ => true,
+            Call::Break(b) | Call::FailedAttempt(_, b) => b.detail(),
+            _ => None,
         }
+    }
+}
+
+impl Opening {
+    /// Whether names and token are UTF-8: the crate has them as `String`.
+    pub fn is_text(&self) -> bool {
+        is_text(Some(&self.bucket)) && is_text(Some(&self.object)) && is_text(self.token.as_ref())
     }
 }
 

@@ -11,13 +11,13 @@ pub fn hex(bytes: &[u8]) -> String {
     let digit = |d: u8| char::from(b"0123456789abcdef"[usize::from(d)]);
     bytes.iter().flat_map(|b| [digit(b >> 4), digit(b & 15)]).collect()
 }
-fn or_none<T>(value: Option<T>, text: impl FnOnce(T) -> String) -> String {
+pub fn or_none<T>(value: Option<T>, text: impl FnOnce(T) -> String) -> String {
     value.map_or("none".into(), text)
 }
 fn sum(value: Option<u32>) -> String {
     or_none(value, |c| format!("{c:08x}"))
 }
-fn number(value: Option<i64>) -> String {
+pub fn number(value: Option<i64>) -> String {
     or_none(value, |n| n.to_string())
 }
 

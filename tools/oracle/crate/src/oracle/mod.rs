@@ -1,5 +1,6 @@
 //! Drives the crate's `AppendableObjectWriterTransport`, `Worker` and `Connector` one call at a time.
 pub mod calls; // the calls and their arguments
+pub mod details; // the value of a redirect detail
 pub mod lines; // the text of requests and states
 pub mod network; // client, stream and retry policy: the script
 pub mod probe; // what the probes in the crate's files publish

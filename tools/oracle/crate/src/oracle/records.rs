@@ -1,5 +1,5 @@
 //! Reads scripts: docs/TRACE.md's records, and the bench records of document 01. A script ends at EN; the last may have none.
-use super::calls::{Break, Call, Opening, Redirect, Response, WriteStatus};
+use super::calls::{Break, Call, Opening, Response, WriteStatus};
 
 /// What the programs have to lend.
 const STORE: u16 = 32_768;
@@ -134,14 +134,10 @@ impl<'a> Reader<'a> {
     fn break_(&mut self) -> Option<Break> {
         Some(match self.u8()? {
             0 => Break::EndOfStream,
-            1 => Break::Status { code: self.u32()?, redirect: self.opt(Self::redirect)? },
+            1 => Break::Status { code: self.u32()?, detail: self.opt(Self::str)? },
             2 => Break::Error,
             _ => return None,
         })
-    }
-
-    fn redirect(&mut self) -> Option<Redirect> {
-        Some(Redirect { token: self.opt(Self::str)?, handle: self.opt(Self::str)?, generation: self.opt(Self::i64)? })
     }
 
     fn bench_record(&mut self, mark: &[u8]) -> Option<Call> {

@@ -1,8 +1,10 @@
-//! The refusals that document 01 adds by design (1, 2, 4, 6, 7, 9 to 13), and 8, which reads the crate's `ReplayBuffer::is_full`.
-//! The form test of 3, and 5, are the crate's own: see runner.rs.
-use super::calls::{Break, Call, Opening, Redirect, Response};
+//! The refusals that document 01 adds by design (1, 2, 4, 6, 7, 9 to 13), 8, which reads the crate's `ReplayBuffer::is_full`, and document 02's 15, which asks
+//! the crate's decoder. The form test of 3, and 5, are the crate's own: see runner.rs.
+use super::calls::{Call, Opening};
+use super::details;
 use super::probe::{self, TransportView};
 use super::session::Phase;
+use crate::google::storage::v2::BidiWriteObjectRedirectedError;
 
 const MAX_BUCKET: usize = 256;
 const MAX_OBJECT: usize = 1_024;
@@ -52,19 +54,21 @@ pub struct Facts {
     pub replayed: usize,
 }
 
-/// 7, 12, 6, 13, 4, 11, 8, 9, 10, as far as they apply.
+/// 7, 12, 6, 13, 15, 4, 11, 8, 9, 10, as far as they apply.
 pub fn later(phase: Phase, view: &TransportView, f: &Facts, call: &Call) -> Option<u8> {
     let cut = bytes_cut(call, view.held.len(), f.chunk);
     let sends = cut > 0 || matches!(call, Call::Flush | Call::Finalize);
     let waits = sends && cut == 0;
     let (full, chunks, waiters) = probe::worker(|w| (w.full, w.chunks.len(), w.waiters.len()));
     let short_out = cut > 0 || matches!(call, Call::Next) && f.replayed < chunks;
+    let redirect = call.detail().map(details::read);
     let rows = [
         (7, phase == Phase::Ended),
         (12, f.closed && matches!(call, Call::Append(_) | Call::Flush | Call::Finalize)),
         (6, !is_phase(phase, call, cut > 0, f.sender.is_some())),
         (13, matches!(call, Call::Verdict(v) | Call::FailedAttempt(v, _) if !(1..=4).contains(v))),
-        (4, too_long(call)),
+        (15, matches!(redirect, Some(None))),
+        (4, redirect.flatten().is_some_and(|r| redirect_too_long(&r)) || response_too_long(call)),
         (11, short_out && f.out < f.chunk),
         (8, (sends || matches!(call, Call::Close)) && full),
         (9, cut > 0 && chunks >= f.slots || waits && waiters >= MAX_WAITERS),
@@ -95,13 +99,13 @@ fn is_phase(phase: Phase, call: &Call, cuts: bool, sent: bool) -> bool {
     }
 }
 
-fn too_long(call: &Call) -> bool {
-    let response = |r: &Response| over(r.handle.as_ref(), MAX_HANDLE);
-    let redirect = |r: &Redirect| over(r.token.as_ref(), MAX_TOKEN) || over(r.handle.as_ref(), MAX_HANDLE);
-    let break_ = |b: &Break| b.redirect().is_some_and(redirect);
+fn response_too_long(call: &Call) -> bool {
     match call {
-        Call::Response(r) | Call::Handshake(r) => response(r),
-        Call::Break(b) | Call::FailedAttempt(_, b) => break_(b),
+        Call::Response(r) | Call::Handshake(r) => over(r.handle.as_ref(), MAX_HANDLE),
         _ => false,
     }
+}
+
+fn redirect_too_long(r: &BidiWriteObjectRedirectedError) -> bool {
+    r.routing_token.as_ref().is_some_and(|t| t.len() > MAX_TOKEN) || r.write_handle.as_ref().is_some_and(|h| h.handle.len() > MAX_HANDLE)
 }

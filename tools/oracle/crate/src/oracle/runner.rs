@@ -154,7 +154,7 @@ impl<'a> Runner<'a> {
 
     fn call(&mut self, call: &Call) {
         match call {
-            Call::Open(o) => self.open(call, o),
+            Call::Open(o) => self.open(o),
             _ if self.session.is_none() => {}
             Call::Append(bytes) => self.appends(bytes),
             Call::Flush | Call::Finalize => self.asks(call),
@@ -165,11 +165,11 @@ impl<'a> Runner<'a> {
     }
 
     /// Refusals 1 to 5 in order; the crate's own are the form test of 3, and 5.
-    fn open(&mut self, call: &Call, o: &Opening) {
+    fn open(&mut self, o: &Opening) {
         if let Some(n) = refusals::limits_and_memory(o) {
             return self.refuse_opening(n);
         }
-        if !call.is_text() {
+        if !o.is_text() {
             return self.no_answer(NOT_TEXT);
         }
         if refusals::bucket_too_long(o) || !oracle_accepts_bucket(&text(&o.bucket)) {
@@ -202,10 +202,6 @@ impl<'a> Runner<'a> {
         }
         if self.unreported && !matches!(call, Call::SendFailed) {
             self.no_answer(NOT_REPORTED);
-            return false;
-        }
-        if !call.is_text() {
-            self.no_answer(NOT_TEXT);
             return false;
         }
         self.unreported = false;

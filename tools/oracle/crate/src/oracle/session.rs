@@ -1,6 +1,6 @@
 //! One session: the crate's transport in the foreground, its worker as a task on a current-thread runtime with a stopped clock. Each function hands the
 //! crate one stimulus and lets it run until nothing moves.
-use super::calls::{Break, Opening, Redirect, Response, WriteStatus, text};
+use super::calls::{Break, Opening, Response, WriteStatus, text};
 use super::network::{self, Attempt, NoBackoff, Outcome, Ruling, ScriptClient, ScriptPolicy, StreamSender};
 use super::probe::{self, TransportView};
 use crate::Error;
@@ -17,7 +17,7 @@ use crate::storage::bidi_write::transport::AppendableObjectWriterTransport as Tr
 use crate::stub::AppendableObjectWriter;
 use bytes::Bytes;
 use gaxi::grpc::tonic::{Code, Status};
-use prost::Message;
+use prost::{Message, Name};
 use std::any::Any;
 use std::cell::RefCell;
 use std::future::Future;
@@ -123,15 +123,10 @@ fn code(n: u32) -> Code {
     *codes.get(n as usize).unwrap_or(&Unknown)
 }
 
-/// A status as a server sends it: a redirect is a detail inside its encoded details, which the crate's decoder reads.
-fn status(n: u32, redirect: Option<&Redirect>) -> Status {
-    let Some(r) = redirect else { return Status::new(code(n), "scripted") };
-    let detail = BidiWriteObjectRedirectedError {
-        routing_token: r.token.as_ref().map(|t| text(t)),
-        write_handle: r.handle.as_ref().map(write_handle),
-        generation: r.generation,
-    };
-    let details = vec![prost_types::Any::from_msg(&detail).expect("encodes")];
+/// A status as a server sends it: a redirect is a detail inside its encoded details, with this value, which the crate's decoder reads.
+fn status(n: u32, detail: Option<&Vec<u8>>) -> Status {
+    let Some(value) = detail else { return Status::new(code(n), "scripted") };
+    let details = vec![prost_types::Any { type_url: BidiWriteObjectRedirectedError::type_url(), value: value.clone() }];
     let rpc = crate::google::rpc::Status { code: n as i32, message: String::new(), details };
     Status::with_details(code(n), "scripted", rpc.encode_to_vec().into())
 }
@@ -437,7 +432,7 @@ impl Session {
         let Some(c) = self.connection.take() else { return };
         match b {
             Break::EndOfStream => drop(c),
-            Break::Status { code, redirect } => drop(c.stream.send(Err(status(*code, redirect.as_ref())))),
+            Break::Status { code, detail } => drop(c.stream.send(Err(status(*code, detail.as_ref())))),
             Break::Error => drop(c.stream.send(Err(Status::new(Code::Unknown, "another error")))),
         }
         settle_with_timers();
@@ -447,7 +442,7 @@ impl Session {
         let attempt = network::take_attempt().expect("an attempt waits");
         let outcome = match b {
             Break::EndOfStream => Outcome::Stream(network::stream().1),
-            Break::Status { code, redirect } => Outcome::Status(status(*code, redirect.as_ref())),
+            Break::Status { code, detail } => Outcome::Status(status(*code, detail.as_ref())),
             Break::Error => Outcome::Error(Error::io("another error")),
         };
         let _ = attempt.outcome.send(outcome);
