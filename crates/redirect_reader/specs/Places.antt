@@ -43,7 +43,8 @@ abbrev pub AnswerFits : Answer → ℕ → Type 0
 AnswerFits Malformed end = Unit {0}
 AnswerFits (Read m) end = SeenFits m end
 
--- r, read off s, is o; its places lie within s, so that a caller may cut them out
+-- r, read off s, is o; its places lie within s, so that a caller may cut them out. Free are place and length, within s, of a part that is not there, and
+-- the bits of a generation that is not known.
 pub record Answers (r : Answer) (s : Bytes) (o : Option Redirect) : Type 0 where
   pub same : answerIn r s ≡ o
   pub fits : AnswerFits r (length s)
