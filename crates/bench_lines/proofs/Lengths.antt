@@ -68,11 +68,11 @@ length-says m (refused n) = omega (arith, length-number n)
 length-says m (took n r) = omega (arith, length-counted (formOf m .hands) n r)
 length-says m (sends r) = omega (arith, length-request r)
 length-says m (waits r n) = simp length-append (omega (arith, length-request r, length-number n))
-length-says m (completes k r) = omega (arith, length-counted (formOf m .hands) k r)
+length-says m (completes k n r) = omega (arith, length-counted (formOf m .hands) k r)
 length-says m (attempt n) = omega (arith, length-number n)
 length-says m ok = omega (arith, two m .1)
 length-says m done = omega arith
-length-says m (ends c k n) = omega arith
+length-says m (ends c k n d) = omega arith
 
 -- a mark with its space
 pub mark-is : (m : Mark) {l r : Line} → textOf l ≡ [] → Adds l (formOf m .name ++ ascii " ") r → textOf r ≡ formOf m .name ++ ascii " "

@@ -82,11 +82,11 @@ says f (refused n) = ascii "E" ++ number n
 says f (took n r) = counted (f .hands) n r
 says f (sends r) = request r
 says f (waits r n) = request r ++ ascii " w" ++ number n
-says f (completes k r) = counted (f .hands) k r
+says f (completes k n r) = counted (f .hands) k r
 says f (attempt n) = number n
 says f ok = f .okay
 says f done = ascii "done"
-says f (ends c k n) = ascii "end"
+says f (ends c k n d) = ascii "end"
 
 -- the line that an answer prints, with its end
 unfoldable pub lineOf : Mark → Answer → Bytes

@@ -27,11 +27,11 @@ by-map g (R.refused n) f y z = refl
 by-map g (R.took n r) f y z = refl
 by-map g (R.sends r) f y z = refl
 by-map g (R.waits r n) f y z = refl
-by-map g (R.completes k r) f y z = refl
+by-map g (R.completes k n r) f y z = refl
 by-map g (R.attempt n) f y z = refl
 by-map g R.ok f y z = refl
 by-map g R.done f y z = refl
-by-map g (R.ends c k n) f y z = refl
+by-map g (R.ends c k n d) f y z = refl
 
 -- whatever the out buffer holds
 by-out : {A : Type 0} (a : Answer) (out : Bytes) (f : ℕ → A) (y z : A) → by (answerOf a out) f y z ≡ by (answerOf a []) f y z

@@ -59,11 +59,11 @@ by (R.refused n) taken cut other = other
 by (R.took n r) taken cut other = taken n
 by (R.sends r) taken cut other = cut
 by (R.waits r n) taken cut other = other
-by (R.completes k r) taken cut other = other
+by (R.completes k n r) taken cut other = other
 by (R.attempt n) taken cut other = other
 by R.ok taken cut other = other
 by R.done taken cut other = other
-by (R.ends c k n) taken cut other = other
+by (R.ends c k n d) taken cut other = other
 
 -- "AP, FL and FI are called once, then again till done or refused": what is still to be called after an answer
 abbrev pub again : R.Call → R.Answer → Option R.Call

@@ -3,6 +3,8 @@
 use mathlib.Core.Path.{_≡_, sym, ap, _∙_, subst}
 use mathlib.Core.List.{List}
 use Prim.Native.Nat.{ℕ}
+use native.Mathlib.Omega.{arith}
+use lib.ListN.{length}
 use Rattle.rules.specs.Message.{Bytes}
 use Rattle.rules.specs.Session as R
 use Rattle.rules.specs.Step.{step}
@@ -10,20 +12,29 @@ use Rattle.rules.specs.Opening as O
 use Rattle.rules.specs.Demand3.{Holds}
 use Rattle.rules.specs.Beyond.{HoldsBeyond}
 use Rattle.rules.specs.Total as total
-use Rattle.rules.specs.Calls.{HoldsCalled}
+use Rattle.rules.specs.Released.{Accounted, MayDrop, ReleasedBy}
+use Rattle.rules.specs.Calls.{begin, HoldsCalled}
+use Rattle.rules.specs.Notes.{releasedIn}
 use Rattle.rules.proofs.Program as rules
 use Rattle.rules.proofs.Refused.{malformed-exactly}
-use Rattle.transport.specs.View.{view}
+use Rattle.rules.proofs.Released as freed
+use Rattle.bidi_write.specs.View.{given}
+use Rattle.transport.specs.View.{view, answerOf}
 use Rattle.transport.specs.Valid.{Valid}
 use Rattle.transport.specs.Promise.{Promise, Promised, PromisedAt}
 use Rattle.transport.specs.Claim.{Memory, viewOf, ValidAt, Does, Promises}
 use Rattle.transport.specs.declared.Session.{Session}
 use Rattle.transport.specs.declared.Outcome.{Outcome}
 use Rattle.transport.proofs.Claim.{bound-of}
+use Rattle.transport.proofs.Numbers.{stored-is}
+use Rattle.transport.proofs.Views.{released-is}
+use Rattle.openings.specs.Opening.{openingOf, releasedAt}
+use Rattle.openings.specs.declared.OpenAnswer.{OpenAnswer}
 use Rattle.openings.proofs.Openings.{accepted-is}
 use Rattle.claims.specs.Claim.{Ensures, Begins, Always, AlwaysCalled, StoredBound}
 use Rattle.claims.specs.Sendable.{AlwaysSendable}
 use Rattle.claims.specs.Malformed.{AlwaysMalformed}
+use Rattle.claims.specs.Released.{storedIn, AlwaysReleased, AlwaysOpeningReleased}
 use Rattle.claims.proofs.Sendable.{handed-out-reads}
 
 -- a promise at memory that is the same
@@ -88,6 +99,12 @@ host-byte-total = rules.program-byte-total viewOf (Does Ensures) Begins ValidAt 
 pub host-calls-hold : AlwaysCalled (λ _ r. HoldsCalled r)
 host-calls-hold = rules.program-calls-hold viewOf (Does Ensures) Begins ValidAt keeps begun
 
+pub host-copies-needed : Always (λ o k w. MayDrop (total.firstTaken (o .payload) (k .object)) w)
+host-copies-needed = rules.program-copies-needed viewOf (Does Ensures) Begins ValidAt keeps begun
+
+pub host-released-total : AlwaysCalled (λ _ r. Accounted r)
+host-released-total = rules.program-released-total viewOf (Does Ensures) Begins ValidAt keeps begun
+
 pub host-stored-bound : StoredBound
 host-stored-bound = bound-of (Does Ensures) Begins keeps begun
 
@@ -101,3 +118,27 @@ program-malformed-exactly c m out o store table out′ p v = ap (λ (x : R.Resul
 
 pub host-malformed-exactly : AlwaysMalformed Ensures
 host-malformed-exactly c m out o store table out′ e = program-malformed-exactly c m out o store table out′ (promised c m out o store table out′ e)
+
+-- ---- how much was released
+
+-- a call answers what the stored total lost
+pub program-released : AlwaysReleased Promises
+program-released c m out o store table out′ p v =
+    let ruled : ReleasedBy c (releasedIn (answerOf (o .answer) out′)) (R.stored (viewOf m)) (R.stored (view (o .session) store table))
+    = subst (λ (x : R.Result). ReleasedBy c (releasedIn (x .answer)) (R.stored (viewOf m)) (R.stored (x .session))) (sym (p .steps v)) (freed.released c (viewOf m)) in
+    rw (released-is (o .answer) out′, ← stored-is (m .session) (m .store) (m .table) v, ← stored-is (o .session) store table (p .stays v)) ruled
+
+pub host-released : AlwaysReleased Ensures
+host-released c m out o store table out′ e = program-released c m out o store table out′ (promised c m out o store table out′ e)
+
+-- an opening answers what it stored no more of its payload
+pub host-opening-released : AlwaysOpeningReleased
+unfolding begin openingOf
+host-opening-released o m b =
+    let made : O.Opening = openingOf (b .opening) (b .beside) (length (b .store)) (length (b .table)) in
+    let number : b .opened .released ≡ O.openReleased o
+    = b .ensured .released-is ∙ ap (λ (a : OpenAnswer). releasedAt a made) (b .accepted) ∙ ap O.openReleased (b .given) in
+    let stored : R.stored (viewOf m) ≡ storedIn (m .session) = stored-is (m .session) (m .store) (m .table) ((begun o m b) .0) in
+    let payload : O.payloadLength (given (b .opening .«has_payload») (b .beside .payload)) ≡ O.payloadLength (o .payload)
+    = ap (λ (x : O.Opening). O.payloadLength (x .payload)) (b .given) in
+    record { payload = omega (arith, freed.opening-released o (viewOf m) ((begun o m b) .1)); noted = sym number }

@@ -221,9 +221,10 @@ valid-acknowledged = valid _ 1 _ _ _ _ _ _
 met-begins : Begins given opened
 unfolding computed openingOf view workerOf connectorOf specOf queueOf rot part waitersOf noWaiters
 met-begins =
-    opens-all opening names (0 ∷ 0 ∷ 0 ∷ []) (0 ∷ []) (openedAs (opened .session) open-answer.Opened) (opened .store) (opened .table)
+    opens-all opening names (0 ∷ 0 ∷ 0 ∷ []) (0 ∷ []) (openedAs (opened .session) open-answer.Opened 0) (opened .store) (opened .table)
     (record {
       writer-is = refl;
+      released-is = refl;
       opens-is = refl;
       refuses = λ x e. let z : _≡_ {A = ℕ} 0 1 = cc in absurd (omega arith);
       store-beyond = refl;
@@ -279,7 +280,7 @@ abbrev report : R.Call
 report = R.response (record { writeStatus = some (M.persistedSize (pos 1)); writeHandle = none })
 
 abbrev taken : Answer
-taken = answer.Completes (record { waiters = 0; request = maybe.Absent })
+taken = answer.Completes (record { waiters = 0; released = 1; request = maybe.Absent })
 
 met-response : Does Ensures report stored (answerOf taken []) acknowledged
 unfolding computed view workerOf connectorOf specOf queueOf rot part waitersOf noWaiters
@@ -350,6 +351,11 @@ met = (
 pub met-object : (ran viewOf (Does Ensures) turns world) .server .stored .object ≡ 97 ∷ []
 unfolding computed requestOf view workerOf connectorOf specOf queueOf rot part waitersOf noWaiters
 met-object = refl
+
+-- and the bank may drop its copy
+pub met-released : (ran viewOf (Does Ensures) turns world) .notes .released ≡ 1
+unfolding computed openingOf requestOf view workerOf connectorOf specOf queueOf rot part waitersOf noWaiters
+met-released = refl
 
 -- so the claims speak of this run
 pub met-holds : Holds (ran viewOf (Does Ensures) turns world)

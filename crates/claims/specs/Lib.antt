@@ -1,3 +1,4 @@
 pub mod Claim
 pub mod Sendable
 pub mod Malformed
+pub mod Released

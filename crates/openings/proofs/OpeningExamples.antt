@@ -5,9 +5,10 @@ use mathlib.Core.Bool.{true, false}
 use mathlib.Core.Option.{some}
 use mathlib.Core.List.{[], _∷_, _++_}
 use Prim.Native.Nat.{ℕ}
-use lib.IntN.{pos, negsuc}
+use lib.IntN.{ℤ, pos, negsuc}
 use Rattle.crc32c.specs.Reg.{crcOf}
 use Rattle.rules.specs.Message.{Bytes}
+use Rattle.rules.specs.Session.{stored}
 use Rattle.rules.specs.Respond.{ack}
 use Rattle.rules.specs.Opening as O
 use Rattle.bidi_write.specs.declared.Checksum.the-variants as checksum
@@ -85,3 +86,11 @@ past = refl
 
 offset : O.larger (pos 3) (pos (O.payloadLength (some (1 ∷ 2 ∷ [])))) ≡ pos 3
 offset = refl
+
+-- of a payload of two bytes, a negative P releases none, one inside it those below, one past it both
+releasedTo : ℤ → ℕ
+releasedTo p = O.openReleased (openingOf (with 2 (status.PersistedSize (record { 0 = p }))) (bytes bucket (1 ∷ 2 ∷ [])) 7 1)
+
+released : (releasedTo (negsuc 0) ≡ 0) × (releasedTo (pos 1) ≡ 1) × (releasedTo (pos 3) ≡ 2)
+unfolding releasedTo stored O.openSession ack openingOf with bytes
+released = (refl, refl, refl)

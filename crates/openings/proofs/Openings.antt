@@ -17,15 +17,17 @@ use Rattle.openings.specs.declared.Opening.{Opening}
 use Rattle.openings.specs.declared.OpenAnswer.{OpenAnswer}
 use Rattle.openings.specs.declared.OpenAnswer.the-variants as answer
 use Rattle.openings.specs.declared.Opened.{Opened}
+use Rattle.openings.specs.declared.starting.Started.{Started}
 
 not-opened {ℓ} : {X : Type ℓ} (x : Refusal) → answer.Refused x ≡ answer.Opened → X
 not-opened x e = let z : _≡_ {A = ℕ} 0 1 = cc in absurd (omega arith)
 
 module _ {o : Opening} {b : Beside} {store : Bytes} {table : List ℕ} {k : Check} where
   pub opens-refused : {x : Refusal} {s : Session} → Admits o b (length store) (length table) k → k ≡ check.Refuse x → s ≡ unopened
-      → Opens o b store table (openedAs s (answer.Refused x)) store table
+      → Opens o b store table (openedAs s (answer.Refused x) 0) store table
   opens-refused {x} admits e f = record {
     writer-is = refl;
+    released-is = refl;
     opens-is = sym (admits .refuses x e);
     refuses = λ y g. (f, refl, refl);
     store-beyond = refl;
@@ -33,10 +35,11 @@ module _ {o : Opening} {b : Beside} {store : Bytes} {table : List ℕ} {k : Chec
     valid = λ g. not-opened x g;
   }
 
-  pub opens-accepted : {s : Session} {store′ : Bytes} {table′ : List ℕ} → Admits o b (length store) (length table) k → k ≡ check.Go
-      → Starts o b store table s store′ table′ → Opens o b store table (openedAs s answer.Opened) store′ table′
+  pub opens-accepted : {r : Started} {store′ : Bytes} {table′ : List ℕ} → Admits o b (length store) (length table) k → k ≡ check.Go
+      → Starts o b store table r store′ table′ → Opens o b store table (openedAs (r .session) answer.Opened (r .released)) store′ table′
   opens-accepted admits e starts = record {
     writer-is = refl;
+    released-is = starts .released-is;
     opens-is = ap O.opened (starts .view-is) ∙ sym (admits .goes e);
     refuses = λ y g. not-opened y (sym g);
     store-beyond = starts .store-beyond;

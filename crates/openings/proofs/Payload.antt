@@ -5,7 +5,7 @@ use mathlib.Core.Bool.{true, false, _&&_}
 use mathlib.Core.Option.{Option, none, some}
 use mathlib.Core.List.{List, [], _∷_, _++_}
 use mathlib.Core.Logic.{⊎-elim}
-use Prim.Native.Nat.{ℕ, _+_, _<_, _≤_, max}
+use Prim.Native.Nat.{ℕ, _+_, _-_, _<_, _≤_, max}
 use native.Mathlib.Nat.{zero-add}
 use native.Mathlib.Omega.{arith}
 use borrow.Author.Tests.{le-leb, lt-leb, leb-true, leb-false, ltb-true, ltb-false}
@@ -28,6 +28,7 @@ use Rattle.bidi_write.specs.Numbers.{toℕ}
 use Rattle.replay_buffer.specs.View.{Lent, lent, queueOf, Fits, Sound}
 use Rattle.replay_buffer.specs.Push.{Room, Pushes}
 use Rattle.replay_buffer.specs.Ack.{Acks}
+use Rattle.replay_buffer.specs.declared.Acked.{Acked}
 use Rattle.replay_buffer.specs.declared.ReplayBuffer.{ReplayBuffer}
 use Rattle.replay_buffer.proofs.Laws.{empty-sound, empty-queue, length-queue, stored-bytes, push-room}
 use Rattle.openings.specs.Opening.{emptyOf, Sized, Stores}
@@ -75,9 +76,10 @@ module _ {limit capacity : ℕ} (store : Bytes) (table : List ℕ) (sized : Size
     size-in = omega arith;
   }
 
-  pub stores-none : (p : ℤ) → Stores limit capacity none p store table (emptyOf capacity) store table
+  pub stores-none : (p : ℤ) → Stores limit capacity none p store table (record { buffer = emptyOf capacity; released = 0 }) store table
   stores-none p = record {
     capacity-is = refl;
+    released-is = refl;
     fits = empty-fits;
     sound = empty-sound memory (emptyOf capacity) table refl refl limit;
     queue-is = empty-queue memory (emptyOf capacity) table refl refl 0 store;
@@ -112,16 +114,31 @@ module _ {limit capacity : ℕ} (store : Bytes) (table : List ℕ) (sized : Size
           (empty-queue memory (emptyOf capacity) table refl refl 0 store′)
           ∙ ap₂ (λ (x : Bytes) (y : ℕ). record { writeOffset = pos 0; bytes = x; crc32c = y } ∷ []) bytes sum-is
 
-      pub stores-some : {p : ℤ} {r : ReplayBuffer} {table′ : List ℕ} → length table₁ ≡ length table → length table′ ≡ length table
-          → Acks memory q (length b) store′ table₁ p r table′ → Stores limit capacity (some b) p store table r store′ table′
-      stores-some {p} {r} e f acks = record {
-        capacity-is = acks .keeps .capacity-is ∙ ap (λ (x : ReplayBuffer). x .capacity) (pushes .result-is);
-        fits = subst (λ (k : ℕ). Fits memory r (length b) (length store′) k) (e ∙ sym f) (acks .keeps .fits);
-        sound = acks .sound limit pushed-sound;
-        queue-is = acks .queue-is limit pushed-sound ∙ ap (ack p) pushed-queue;
-        store-beyond = written .beyond;
-        table-beyond = acks .keeps .beyond ∙ pushes .beyond;
-      }
+      module _ {p : ℤ} {r : Acked} {table′ : List ℕ} (e : length table₁ ≡ length table) (f : length table′ ≡ length table)
+          (acks : Acks memory q (length b) store′ table₁ p r table′) where
+        left-fits : Fits memory (r .buffer) (length b) (length store′) (length table′)
+        left-fits = subst (λ (k : ℕ). Fits memory (r .buffer) (length b) (length store′) k) (e ∙ sym f) (acks .keeps .fits)
+
+        left-queue : queueOf memory (r .buffer) (length b) store′ table′ ≡ O.openChunks (some b) p
+        left-queue = acks .queue-is limit pushed-sound ∙ ap (ack p) pushed-queue
+
+        -- the whole payload was stored, and what is left of it is stored
+        left-released : r .released ≡ length b - length (bytesOf (O.openChunks (some b) p))
+        left-released =
+            acks .released-is
+            ∙ ap₂ _-_ (ap (λ (x : ReplayBuffer). x .«unpersisted_bytes») (pushes .result-is) ∙ zero-add (length b))
+            (sym (stored-bytes memory (r .buffer) (length b) store′ table′ left-fits limit (acks .sound limit pushed-sound)) ∙ ap (λ (l : List ReplayChunk). length (bytesOf l)) left-queue)
+
+        pub stores-some : Stores limit capacity (some b) p store table r store′ table′
+        stores-some = record {
+          capacity-is = acks .keeps .capacity-is ∙ ap (λ (x : ReplayBuffer). x .capacity) (pushes .result-is);
+          released-is = left-released;
+          fits = left-fits;
+          sound = acks .sound limit pushed-sound;
+          queue-is = left-queue;
+          store-beyond = written .beyond;
+          table-beyond = acks .keeps .beyond ∙ pushes .beyond;
+        }
 
 -- ---- what is left of it
 

@@ -3,7 +3,7 @@ use mathlib.Core.Path.{_≡_}
 use mathlib.Core.Bool.{false, _&&_}
 use mathlib.Core.Option.{Option, none, some, Option·getD}
 use mathlib.Core.List.{List}
-use Prim.Native.Nat.{ℕ, _+_, _*_, _<_, _≤_, max}
+use Prim.Native.Nat.{ℕ, _+_, _*_, _-_, _<_, _≤_, max}
 use lib.ListN.{length, drop, replicate}
 use lib.IntN.{ℤ, pos}
 use Rattle.rules.specs.Limits.{maxChunk, maxCapacity, defaultCapacity, storeSize}
@@ -24,6 +24,7 @@ use Rattle.state.specs.declared.AppendObjectSpec.{AppendObjectSpec}
 use Rattle.state.specs.declared.Condition.the-variants as condition
 use Rattle.connector.specs.declared.Connector.{Connector}
 use Rattle.replay_buffer.specs.View.{lent, queueOf, Fits, Sound}
+use Rattle.replay_buffer.specs.declared.Acked.{Acked}
 use Rattle.replay_buffer.specs.declared.ReplayBuffer.{ReplayBuffer}
 use Rattle.worker.specs.View.{noWaiters}
 use Rattle.bidi_write.specs.Refusal.{numberOf}
@@ -42,6 +43,7 @@ use Rattle.openings.specs.declared.Opening.{Opening}
 use Rattle.openings.specs.declared.OpenAnswer.{OpenAnswer}
 use Rattle.openings.specs.declared.OpenAnswer.the-variants as answer
 use Rattle.openings.specs.declared.Opened.{Opened}
+use Rattle.openings.specs.declared.starting.Started.{Started}
 
 -- the bytes that come beside an opening
 pub record Beside : Type 0 where
@@ -136,13 +138,19 @@ abbrev pub openedOf : OpenAnswer → R.Session → O.Opened
 openedOf (answer.Refused x) s = O.turnedAway (numberOf x)
 openedOf answer.Opened s = O.opened s
 
+-- the bytes that it released
+abbrev pub releasedAt : OpenAnswer → O.Opening → ℕ
+releasedAt (answer.Refused x) o = 0
+releasedAt answer.Opened o = O.openReleased o
+
 -- a session with the writer's generation and persisted size (`generation`, `persisted_size` of transport.rs): its own
-abbrev pub openedAs : Session → OpenAnswer → Opened
-openedAs s a = record { session = s; answer = a; generation = s .worker .connector .spec .generation; «persisted_size» = s .worker .«persisted_size» }
+abbrev pub openedAs : Session → OpenAnswer → ℕ → Opened
+openedAs s a n = record { session = s; answer = a; released = n; generation = s .worker .connector .spec .generation; «persisted_size» = s .worker .«persisted_size» }
 
 -- the rules' opening o, from the store and table lent to what it answered and left of them
 pub record OpensAs (o : O.Opening) (store : Bytes) (table : List ℕ) (r : Opened) (store′ : Bytes) (table′ : List ℕ) : Type 0 where
-  pub writer-is : r ≡ openedAs (r .session) (r .answer)
+  pub writer-is : r ≡ openedAs (r .session) (r .answer) (r .released)
+  pub released-is : r .released ≡ releasedAt (r .answer) o
   pub opens-is : openedOf (r .answer) (view (r .session) store′ table′) ≡ O.opens o
   -- a refused opening touches nothing, and leaves a session that ended
   pub refuses : (x : Refusal) → r .answer ≡ answer.Refused x → (r .session ≡ unopened) × (store′ ≡ store) × (table′ ≡ table)
@@ -200,17 +208,19 @@ pub record Sized (limit capacity store table : ℕ) : Type 0 where
   pub table-lent : 0 < table
 
 -- the replay buffer, with the payload
-pub record Stores (limit capacity : ℕ) (payload : Option Bytes) (persisted : ℤ) (store : Bytes) (table : List ℕ) (r : ReplayBuffer) (store′ : Bytes) (table′ : List ℕ) : Type 0 where
-  pub capacity-is : r .capacity ≡ capacity
-  pub fits : Fits (lent (storeSize capacity limit) (length table)) r (O.payloadLength payload) (length store′) (length table′)
-  pub sound : Sound limit (lent (storeSize capacity limit) (length table)) r table′
-  pub queue-is : queueOf (lent (storeSize capacity limit) (length table)) r (O.payloadLength payload) store′ table′ ≡ O.openChunks payload persisted
+pub record Stores (limit capacity : ℕ) (payload : Option Bytes) (persisted : ℤ) (store : Bytes) (table : List ℕ) (r : Acked) (store′ : Bytes) (table′ : List ℕ) : Type 0 where
+  pub capacity-is : r .buffer .capacity ≡ capacity
+  pub released-is : r .released ≡ O.payloadLength payload - length (R.bytesOf (O.openChunks payload persisted))
+  pub fits : Fits (lent (storeSize capacity limit) (length table)) (r .buffer) (O.payloadLength payload) (length store′) (length table′)
+  pub sound : Sound limit (lent (storeSize capacity limit) (length table)) (r .buffer) table′
+  pub queue-is : queueOf (lent (storeSize capacity limit) (length table)) (r .buffer) (O.payloadLength payload) store′ table′ ≡ O.openChunks payload persisted
   pub store-beyond : drop (storeSize capacity limit) store′ ≡ drop (storeSize capacity limit) store
   pub table-beyond : drop (length table) table′ ≡ drop (length table) table
 
 -- the session of an accepted opening
-pub record Starts (o : Opening) (b : Beside) (store : Bytes) (table : List ℕ) (s : Session) (store′ : Bytes) (table′ : List ℕ) : Type 0 where
-  pub view-is : view s store′ table′ ≡ O.openSession (openingOf o b (length store) (length table))
-  pub valid : Valid s store′ table′
-  pub store-beyond : drop (lentOf s .size) store′ ≡ drop (lentOf s .size) store
-  pub table-beyond : drop (s .slots) table′ ≡ drop (s .slots) table
+pub record Starts (o : Opening) (b : Beside) (store : Bytes) (table : List ℕ) (r : Started) (store′ : Bytes) (table′ : List ℕ) : Type 0 where
+  pub view-is : view (r .session) store′ table′ ≡ O.openSession (openingOf o b (length store) (length table))
+  pub released-is : r .released ≡ O.openReleased (openingOf o b (length store) (length table))
+  pub valid : Valid (r .session) store′ table′
+  pub store-beyond : drop (lentOf (r .session) .size) store′ ≡ drop (lentOf (r .session) .size) store
+  pub table-beyond : drop (r .session .slots) table′ ≡ drop (r .session .slots) table

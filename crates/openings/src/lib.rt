@@ -60,6 +60,8 @@ pub enum OpenAnswer {
 pub struct Opened {
     pub session: Session,
     pub answer: OpenAnswer,
+    // bytes of the payload that were persisted already
+    pub released: usize,
     // the writer's `generation` and `persisted_size`, as the opening left them
     pub generation: Generation,
     pub persisted_size: Offset,
@@ -92,10 +94,10 @@ pub fn open(
     match way {
         Check::Refuse(x) => {
             let session = unopened();
-            writer(session, OpenAnswer::Refused(x))
+            writer(session, OpenAnswer::Refused(x), 0)
         }
         Check::Go => {
-            let session = start(
+            let started = start(
                 o,
                 store,
                 table,
@@ -106,20 +108,22 @@ pub fn open(
                 response_handle,
                 payload,
             );
-            writer(session, OpenAnswer::Opened)
+            let session = started.session;
+            writer(session, OpenAnswer::Opened, started.released)
         }
     }
 }
 
 // The session, with what the source's writer tells of it.
-fn writer(session: Session, answer: OpenAnswer) -> Opened
-    ensures { λ r. ⌜ r ≡ openedAs session answer ⌝ }
+fn writer(session: Session, answer: OpenAnswer, released: usize) -> Opened
+    ensures { λ r. ⌜ r ≡ openedAs session answer released ⌝ }
 {
     let generation = session.worker.connector.spec.generation;
     let persisted_size = session.worker.persisted_size;
     Opened {
         session,
         answer,
+        released,
         generation,
         persisted_size,
     }

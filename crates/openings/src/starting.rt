@@ -21,6 +21,7 @@ use bidi_write::Offset;
 use bidi_write::Size;
 use bidi_write::WriteStatus;
 use connector::Connector;
+use replay_buffer::Acked;
 use replay_buffer::ReplayBuffer;
 use replay_buffer::ring_size;
 use state::AppendObjectSpec;
@@ -39,6 +40,12 @@ use transport::Sent;
 use transport::Session;
 use worker::PendingRequests;
 use worker::Worker;
+
+// The session of an accepted opening, and how many bytes of the payload were released.
+pub struct Started {
+    pub session: Session,
+    pub released: usize,
+}
 
 // "Capacity is the larger of the asked one and 2 × C + 1."
 pub fn capacity_for(asked: usize, limit: usize) -> usize
@@ -60,7 +67,7 @@ pub fn start(
     routing_token: &[u8],
     response_handle: &[u8],
     payload: &[u8],
-) -> Session
+) -> Started
     requires { ⌜ Admitted o (beside (now bucket) (now object) (now «write_handle») (now «routing_token») (now «response_handle») (now payload)) (length (now store)) (length (now table)) ⌝ }
     ensures { λ r. ⌜ Starts o (beside (now (bucket .entry)) (now (object .entry)) (now («write_handle» .entry)) (now («routing_token» .entry)) (now («response_handle» .entry)) (now (payload .entry))) (now (store .entry)) (now (table .entry)) r (now (store .exit)) (now (table .exit)) ⌝ }
 {
@@ -82,7 +89,7 @@ pub fn start(
         routing_token,
         response_handle,
     );
-    let buffer = store_payload(
+    let acked = store_payload(
         limit,
         capacity,
         store,
@@ -94,7 +101,8 @@ pub fn start(
     );
     let at = write_offset(persisted, payload_length(has_payload, payload));
     let running = running_sum(has_payload, sum, persisted, stated);
-    fresh(
+    let buffer = acked.buffer;
+    let session = fresh(
         limit,
         slots,
         Phase::Live,
@@ -103,7 +111,11 @@ pub fn start(
         connector,
         buffer,
         persisted,
-    )
+    );
+    Started {
+        session,
+        released: acked.released,
+    }
 }
 
 // "persisted size P is the response's, 0 where absent"
@@ -188,7 +200,7 @@ fn store_payload(
     payload: &[u8],
     sum: u32,
     persisted: Offset,
-) -> ReplayBuffer
+) -> Acked
     requires { ⌜ Sized limit capacity (length (now store)) (length (now table)) ⌝ }
     requires { ⌜ M.over limit (given present (now payload)) ≡ false ⌝ }
     requires { ⌜ sum ≡ payloadSum (given present (now payload)) ⌝ }
@@ -198,7 +210,10 @@ fn store_payload(
     let size = ring_size(capacity, limit);
     let buffer = empty(capacity);
     if !present {
-        return buffer;
+        return Acked {
+            buffer,
+            released: 0,
+        };
     }
     let n = payload.len();
     ring::copy_in(store, size, 0, 0, payload, n);

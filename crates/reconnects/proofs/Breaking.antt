@@ -106,12 +106,12 @@ module _ (b : M.Break) (v : R.Session) where
   unfolding step breaks R.unless
   rule-refuses x e = refused v _ x _ e
 
-  rule-finishes : RuleTests check.Go → R.complete v ≡ true → step (R.break b) v ≡ R.ending R.finished 0 v
+  rule-finishes : RuleTests check.Go → R.complete v ≡ true → step (R.break b) v ≡ R.ending R.finished 0 0 v
   unfolding step breaks R.unless
   rule-finishes e f = passed v _ _ e ∙ first _ _ _ f
 
   rule-closes : RuleTests check.Go → R.complete v ≡ false → R.isClosing (v .phase) ≡ true
-      → step (R.break b) v ≡ R.ending (cond (M.isEnd b) R.finished R.streamError) 0 v
+      → step (R.break b) v ≡ R.ending (cond (M.isEnd b) R.finished R.streamError) 0 0 v
   unfolding step breaks R.unless
   rule-closes e f g = passed v _ _ e ∙ second _ _ _ f ∙ first _ _ _ g
 
@@ -148,17 +148,17 @@ module _ (s : Session) (store : Bytes) (table : List ℕ) (out : Bytes) (n : ℕ
     unfolding view
     closing-at t e = rw (sym phase-is) e
 
-    pub break-finishes : (r : Outcome) → complete ≡ true → EndsAs cause.Finished 0 s r → Promise (R.break b) s store table out r store table out
+    pub break-finishes : (r : Outcome) → complete ≡ true → EndsAs cause.Finished 0 0 s r → Promise (R.break b) s store table out r store table out
     break-finishes r done ends =
-        promise (R.break b) _ s store table out r goes-first (ended cause.Finished 0 s r ends)
+        promise (R.break b) _ s store table out r goes-first (ended cause.Finished 0 0 s r ends)
         (λ v. sym (rule-finishes b (view s store table) (at-view check.Go go) (complete-at true done v)))
 
     module _ (waits : complete ≡ false) where
-      pub break-closes : (cause : Cause) (r : Outcome) → eqb n 5 ≡ true → causeOf cause ≡ cond (M.isEnd b) R.finished R.streamError → EndsAs cause 0 s r
+      pub break-closes : (cause : Cause) (r : Outcome) → eqb n 5 ≡ true → causeOf cause ≡ cond (M.isEnd b) R.finished R.streamError → EndsAs cause 0 0 s r
           → Promise (R.break b) s store table out r store table out
       break-closes cause r closing cause-is ends =
-          promise (R.break b) _ s store table out r goes-first (ended cause 0 s r ends)
-          (λ v. ap (λ (k : R.Cause). R.ending k 0 (view s store table)) cause-is
+          promise (R.break b) _ s store table out r goes-first (ended cause 0 0 s r ends)
+          (λ v. ap (λ (k : R.Cause). R.ending k 0 0 (view s store table)) cause-is
           ∙ sym (rule-closes b (view s store table) (at-view check.Go go) (complete-at false waits v) (closing-at true closing)))
 
       pub break-awaits : (d : Connector) (redirect : Bool) → eqb n 5 ≡ false → redirect ≡ M.isRedirect b

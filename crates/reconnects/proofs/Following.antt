@@ -39,8 +39,8 @@ promise c rule s store table out r g f e = record {
   stays = f .stays store table;
 }
 
-pub ended : (c : Cause) (k : ℕ) (s : Session) (r : Outcome) → EndsAs c k s r → Follows (R.ending (causeOf c) k) s r
-ended c k s r e = record {
+pub ended : (c : Cause) (k released : ℕ) (s : Session) (r : Outcome) → EndsAs c k released s r → Follows (R.ending (causeOf c) k released) s r
+ended c k released s r e = record {
   quiet = record {
     accepts = λ x f. never (r .answer) x (e .answer-is) f;
     none-taken = rw (e .answer-is);
@@ -51,7 +51,7 @@ ended c k s r e = record {
   stays = e .stays;
 }
   where
-    never : (a : Answer) (x : Refusal) → a ≡ answer.Ends (record { cause = c; completed = k; failed = s .worker .«pending_requests» .count }) → a ≡ answer.Refused x → ⊥
+    never : (a : Answer) (x : Refusal) → a ≡ answer.Ends (record { cause = c; completed = k; released = released; failed = s .worker .«pending_requests» .count }) → a ≡ answer.Refused x → ⊥
     never a x g f = let z : _≡_ {A = ℕ} 0 1 = cc in absurd (omega arith)
 
 -- a redirect that is taken over is not counted yet

@@ -98,11 +98,11 @@ module _ (s : Session) (redirect : Bool) (verdict : ℕ) (d : Connector)
   }
 
   pub rules-end : (cause : Cause) (r : Outcome) → ruling redirect (s .worker .connector .«redirects_followed») verdict ≡ some (causeOf cause)
-      → EndsAs cause 0 (renewed d (s .worker .«self_flush_outstanding») (phase.Ended cause) sent.Nothing s) r
+      → EndsAs cause 0 0 (renewed d (s .worker .«self_flush_outstanding») (phase.Ended cause) sent.Nothing s) r
       → Follows (judged redirect verdict) s r
   unfolding view workerOf ruled R.ending
   rules-end cause r e ends = record {
-    quiet = ended cause 0 _ r ends .quiet;
+    quiet = ended cause 0 0 _ r ends .quiet;
     steps = λ store table out v. ends .ends store table out (over store table v) ∙ as-judged (some (causeOf cause)) store table e v;
     stays = λ store table v. ends .stays store table (over store table v);
   }

@@ -50,10 +50,10 @@ pub fn stream_break(s: Session, b: Break, detail: &[u8]) -> Outcome
             let w = s.worker;
             let waiting = w.pending_requests;
             if is_complete(w.finalized, waiting.count) {
-                return end(s, Cause::Finished, 0);
+                return end(s, Cause::Finished, 0, 0);
             }
             if phase == CLOSING {
-                return end(s, closing_cause(b), 0);
+                return end(s, closing_cause(b), 0, 0);
             }
             let connector = w.connector;
             let persisted = w.persisted_size;
@@ -176,7 +176,7 @@ fn on_verdict(s: Session, redirect: bool, verdict: u8) -> Outcome
         RetryResult::Ended(cause) => {
             // Only an ended session has followed a fourth.
             let t = renew(s, after, Phase::Ended(cause), Sent::Nothing);
-            end(t, cause, 0)
+            end(t, cause, 0, 0)
         }
     }
 }

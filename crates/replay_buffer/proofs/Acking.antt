@@ -121,16 +121,17 @@ module _ (m : Lent) (b : ReplayBuffer) (end : ℕ) (store : Bytes) (table : List
 
   module _ (p : ℤ) (f : Front) (ef : f ≡ frontOf p (pos (end - b .«unpersisted_bytes»)) (wordsOf m b table)) where
     -- no table that pushes and acknowledgements leave
-    pub acks-too-long : b .«unpersisted_bytes» < f .bytes → Acks m b end store table p b table
+    pub acks-too-long : b .«unpersisted_bytes» < f .bytes → Acks m b end store table p (record { buffer = b; released = 0 }) table
     acks-too-long h =
         record {
           keeps = keeps-same m b end store table fits;
+          released-is = omega arith;
           queue-is = λ l s. absurd (omega (arith, front-total p (pos (end - b .«unpersisted_bytes»)) (wordsOf m b table), ap (λ (x : Front). x .bytes) ef, s .stored-is));
           sound = λ l s. s;
         }
 
     pub acks-trimmed : (r : ReplayBuffer) (table′ : List ℕ) → Stored b f → Trims m (advanced m b f) end store table p r table′
-        → Acks m b end store table p r table′
+        → Acks m b end store table p (record { buffer = r; released = b .«unpersisted_bytes» - r .«unpersisted_bytes» }) table′
     unfolding queueOf
     acks-trimmed r table′ st t =
         let o : ℕ = end - b .«unpersisted_bytes» in
@@ -141,6 +142,7 @@ module _ (m : Lent) (b : ReplayBuffer) (end : ℕ) (store : Bytes) (table : List
         rw (start-advanced m b f end store table fits st, words-advanced m b f end store table fits st, ef) (front-above p o ws) in
         record {
           keeps = keeps-trans m b (advanced m b f) r end store table table′ (keeps-advanced m b f end store table fits st table refl) (t .keeps);
+          released-is = refl;
           queue-is = λ l s.
               t .queue-is l (sd l s) ab
               ∙ ap (ack p) (queue-advanced m b f end store table fits st)

@@ -12,6 +12,7 @@ use Rattle.ring.specs.Ring.{wrapped, part}
 use Rattle.chunk_words.specs.Word.{lenOf}
 use Rattle.replay_buffer.specs.View.{Lent, wordsOf, queueOf, Fits, Sound}
 use Rattle.replay_buffer.specs.declared.ReplayBuffer.{ReplayBuffer}
+use Rattle.replay_buffer.specs.declared.Acked.{Acked}
 use Rattle.replay_buffer.specs.declared.Front.{Front}
 
 -- what a release leaves as it was, whatever the memory holds
@@ -25,11 +26,13 @@ pub record Keeps (m : Lent) (b : ReplayBuffer) (end : ℕ) (store : Bytes) (tabl
   pub held-is : (h : ℕ) → b .«unpersisted_bytes» + h ≤ m .size
       → part (m .size) (r .head) (r .«unpersisted_bytes») h store ≡ part (m .size) (b .head) (b .«unpersisted_bytes») h store
 
-pub record Acks (m : Lent) (b : ReplayBuffer) (end : ℕ) (store : Bytes) (table : List ℕ) (persisted : ℤ) (r : ReplayBuffer) (table′ : List ℕ) : Type 0 where
-  pub keeps : Keeps m b end store table r table′
+pub record Acks (m : Lent) (b : ReplayBuffer) (end : ℕ) (store : Bytes) (table : List ℕ) (persisted : ℤ) (r : Acked) (table′ : List ℕ) : Type 0 where
+  pub keeps : Keeps m b end store table (r .buffer) table′
+  -- "The number is the stored total before less the stored total after", whatever the memory holds.
+  pub released-is : r .released ≡ b .«unpersisted_bytes» - r .buffer .«unpersisted_bytes»
   -- for what pushes and acknowledgements leave
-  pub queue-is : (limit : ℕ) → Sound limit m b table → queueOf m r end store table′ ≡ R.ack persisted (queueOf m b end store table)
-  pub sound : (limit : ℕ) → Sound limit m b table → Sound limit m r table′
+  pub queue-is : (limit : ℕ) → Sound limit m b table → queueOf m (r .buffer) end store table′ ≡ R.ack persisted (queueOf m b end store table)
+  pub sound : (limit : ℕ) → Sound limit m b table → Sound limit m (r .buffer) table′
 
 -- ---- its parts
 

@@ -40,6 +40,12 @@ pub struct Chunk {
     pub crc32c: u32,
 }
 
+// What an acknowledgement leaves, and how many bytes it released.
+pub struct Acked {
+    pub buffer: ReplayBuffer,
+    pub released: usize,
+}
+
 // Whole chunks at the front, and how many bytes they have.
 struct Front {
     chunks: usize,
@@ -96,7 +102,7 @@ pub fn ack(
     slots: usize,
     end: Offset,
     persisted: Offset,
-) -> ReplayBuffer
+) -> Acked
     requires { ⌜ (Fits (lent size slots) b (toℕ (end .0)) (length (now store)) (length (now table))) × (ltZ (end .0) (pos 0) ≡ false) ⌝ }
     ensures { λ r. ⌜ Acks (lent size slots) b (toℕ (end .0)) (now (store .entry)) (now (table .entry)) (persisted .0) r (now (table .exit)) ⌝ }
 {
@@ -106,10 +112,15 @@ pub fn ack(
     let front = acknowledged(table, slots, first, chunks, start, persisted);
     // no table that pushes and acknowledgements leave
     if b.unpersisted_bytes < front.bytes {
-        return b;
+        return Acked {
+            buffer: b,
+            released: 0,
+        };
     }
     let rest = advance(b, size, slots, front);
-    trim(rest, store, size, table, slots, end, persisted)
+    let buffer = trim(rest, store, size, table, slots, end, persisted);
+    let released = b.unpersisted_bytes - buffer.unpersisted_bytes;
+    Acked { buffer, released }
 }
 
 // Whether n bytes from an offset on end at or below a size.

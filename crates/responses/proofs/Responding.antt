@@ -39,7 +39,7 @@ noted f v = R.setWorker (R.setConnector (f (v .worker .connector)) (R.setMark fa
 
 -- ---- the rules of both calls: refusals, and then what the status comes to
 
-pub record Rules (c : R.Call) (right : R.Phase → Bool) (m : M.Response) (f : R.Connector → R.Connector) (last : ℕ → R.Session → R.Result) : Type 0 where
+pub record Rules (c : R.Call) (right : R.Phase → Bool) (m : M.Response) (f : R.Connector → R.Connector) (last : ℕ → ℕ → R.Session → R.Result) : Type 0 where
   pub some : askedBy c .empty ≡ false
   pub refuses : (v : R.Session) (x : Refusal) → checked (receives right (v .phase) m) ≡ check.Refuse x → step c v ≡ R.answers (R.refused (numberOf x)) v
   pub accepts : (v : R.Session) → checked (receives right (v .phase) m) ≡ check.Go
@@ -73,7 +73,7 @@ handshake-rules m = record { some = refl; refuses = λ v x e. refused v _ x _ e;
 
 -- ---- the promise
 
-module _ {c : R.Call} {right : R.Phase → Bool} {m : M.Response} {f : R.Connector → R.Connector} {last : ℕ → R.Session → R.Result} (rules : Rules c right m f last)
+module _ {c : R.Call} {right : R.Phase → Bool} {m : M.Response} {f : R.Connector → R.Connector} {last : ℕ → ℕ → R.Session → R.Result} (rules : Rules c right m f last)
     (s : Session) (store : M.Bytes) (table : List ℕ) (way : Check) (admits : Admits s (length store) (length table) (receives right (phaseOf (s .phase)) m) way) where
   pub refuses-as : (x : Refusal) → way ≡ check.Refuse x → PromisedAt c s store table (record { session = s; answer = answer.Refused x }) table
   unfolding view

@@ -61,7 +61,7 @@ pub record Flushes (s : Session) (r : Bool) : Type 0 where
   pub flushes : (store : Bytes) (table : List ℕ) → Valid s store table → r ≡ (R.isLive (phaseOf (s .phase)) && R.watermark (view s store table))
 
 -- the last step of a response or handshake, which no memory is lent to
-pub record Answers (last : ℕ → R.Session → R.Result) (w : Way) (s : Session) (r : Outcome) : Type 0 where
+pub record Answers (last : ℕ → ℕ → R.Session → R.Result) (w : Way) (s : Session) (r : Outcome) : Type 0 where
   pub quiet : Quiet (r .answer)
   pub answers : (store : Bytes) (table : List ℕ) (out : Bytes) → Valid s store table
       → R.answers (answerOf (r .answer) out) (view (r .session) store table) ≡ onward w last (view s store table)

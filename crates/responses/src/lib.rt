@@ -18,6 +18,7 @@ use admission::is_streaming;
 use bidi_write::Check;
 use bidi_write::Response;
 use connector::Connector;
+use sizes::Settled;
 use sizes::Way;
 use sizes::handle_response_success;
 use transport::Answer;
@@ -155,14 +156,14 @@ fn answer_response(s: Session, way: Way) -> Outcome
 {
     match way {
         Way::On(k) => maybe_send_watermark_flush(s, k),
-        Way::Ends(cause, k) => end(s, cause, k),
+        Way::Ends(cause, k) => end(s, cause, k.completed, k.released),
     }
 }
 
 // "If still live and the watermark holds, one bare flush request at the last chunk's end is sent and marked."
 // The last chunk ends at the write offset, and under the watermark there is one.
-fn maybe_send_watermark_flush(s: Session, completed: usize) -> Outcome
-    ensures { λ r. ⌜ Answers lastStep (ways.On completed) s r ⌝ }
+fn maybe_send_watermark_flush(s: Session, settled: Settled) -> Outcome
+    ensures { λ r. ⌜ Answers lastStep (ways.On settled) s r ⌝ }
 {
     let p = s.phase;
     if needs_bare_flush(s) {
@@ -171,7 +172,8 @@ fn maybe_send_watermark_flush(s: Session, completed: usize) -> Outcome
         return Outcome {
             session: renew(s, w.set_mark(true), p, Sent::BareFlush),
             answer: Answer::Completes(Completed {
-                waiters: completed,
+                waiters: settled.completed,
+                released: settled.released,
                 request: MaybeRequest::Present(worker::flush_request(at)),
             }),
         };
@@ -179,7 +181,8 @@ fn maybe_send_watermark_flush(s: Session, completed: usize) -> Outcome
     Outcome {
         session: set_phase(s, p, Sent::Nothing),
         answer: Answer::Completes(Completed {
-            waiters: completed,
+            waiters: settled.completed,
+            released: settled.released,
             request: MaybeRequest::Absent,
         }),
     }
@@ -216,10 +219,11 @@ fn answer_handshake(s: Session, way: Way) -> Outcome
                 Sent::Nothing,
             ),
             answer: Answer::Completes(Completed {
-                waiters: k,
+                waiters: k.completed,
+                released: k.released,
                 request: MaybeRequest::Absent,
             }),
         },
-        Way::Ends(cause, k) => end(s, cause, k),
+        Way::Ends(cause, k) => end(s, cause, k.completed, k.released),
     }
 }

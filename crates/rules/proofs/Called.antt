@@ -16,7 +16,7 @@ use Rattle.rules.specs.Reconnect.{breaks, ruled, judges, fails}
 use Rattle.rules.specs.Replay.{handsWaiter, handsChunk, hands, unsent}
 use Rattle.rules.specs.Step.{step}
 use Rattle.rules.specs.Notes.{Mark, Notes, shows, accepted, brings, marksWith, noted}
-use Rattle.rules.specs.Calls.{Run, called, calledAll}
+use Rattle.rules.specs.Calls.{Run, called}
 use Rattle.rules.proofs.Tests.{and-no}
 use Rattle.rules.proofs.Lists.{cond-ind, choose-ind, unless-ind}
 use Rattle.rules.proofs.CalledInv.{BytesOK, CountOK, Called, bytes-cuts, bytes-holds, bytes-acks, satisfied-le, count-zero, count-on, count-ends, count-serves, count-new}
@@ -45,25 +45,25 @@ module _ (limit capacity : ℕ) where
     phased : {over : Bool} → over ≡ false → CountOK (s .writer .made) (waiters s) over (g .marks) (g .completed + k)
     phased f = count-on (i .going) f (i .inv .count)
 
-    ending-kept : (c : Cause) → Same g (ending c k s)
+    ending-kept : (c : Cause) (released : ℕ) → Same g (ending c k released s)
     unfolding ending
-    ending-kept c = record { inv = record { bytes = i .inv .bytes; count = count-ends (i .inv .count) } }
+    ending-kept c released = record { inv = record { bytes = i .inv .bytes; count = count-ends (i .inv .count) } }
 
-    last-kept : Same g (lastStep k s)
+    last-kept : (released : ℕ) → Same g (lastStep k released s)
     unfolding lastStep
-    last-kept =
+    last-kept released =
         choose-ind (Same g) _ _ _ (λ _. record { inv = record { bytes = i .inv .bytes; count = i .inv .count } })
         (λ _. record { inv = record { bytes = i .inv .bytes; count = i .inv .count } })
 
-    replay-kept : Same g (toReplay k s)
+    replay-kept : (released : ℕ) → Same g (toReplay k released s)
     unfolding toReplay
-    replay-kept = record { inv = record { bytes = i .inv .bytes; count = phased refl } }
+    replay-kept released = record { inv = record { bytes = i .inv .bytes; count = phased refl } }
 
   module _ (g : Notes) (s : Session) (i : Going g 0 s) where
     ruled-kept : (c : Option Cause) → Same g (ruled c s)
     unfolding ruled
     ruled-kept none = record { inv = record { bytes = i .inv .bytes; count = phased g 0 s i refl } }
-    ruled-kept (some c) = ending-kept g 0 s i c
+    ruled-kept (some c) = ending-kept g 0 s i c 0
 
     waiter-kept : (q : Option PendingRequest) (at : ℕ) → Same g (handsWaiter q at s)
     unfolding handsWaiter
@@ -77,9 +77,10 @@ module _ (limit capacity : ℕ) where
     chunk-kept none at = waiter-kept (getElem? (waiters s) (at - length (chunks s))) at
     chunk-kept (some c) at = record { inv = record { bytes = i .inv .bytes; count = phased g 0 s i refl } }
 
-    takes-kept : (n : Option ℤ) (f : Bool) (last : ℕ → Session → Result) → ((k : ℕ) (s′ : Session) → Going g k s′ → Same g (last k s′)) → Same g (takes n f s last)
+    takes-kept : (n : Option ℤ) (f : Bool) (last : ℕ → ℕ → Session → Result) → ((k : ℕ) (s′ : Session) → Going g k s′ → (released : ℕ) → Same g (last k released s′))
+        → Same g (takes n f s last)
     unfolding takes
-    takes-kept none f last h = h 0 s i
+    takes-kept none f last h = h 0 s i 0
     takes-kept (some n) f last h =
         let z : g .completed + 0 + satisfied n f (waiters s) ≡ g .completed + satisfied n f (waiters s) = omega arith in
         let j : Going g (satisfied n f (waiters s)) (setWorker (absorbs n f (s .worker)) s)
@@ -91,7 +92,7 @@ module _ (limit capacity : ℕ) where
                 (count-serves (satisfied n f (waiters s)) (satisfied-le n f (waiters s)) (i .going) (i .inv .count));
           };
         } in
-        choose-ind (Same g) _ _ _ (λ _. ending-kept g 0 s i _) (λ _. choose-ind (Same g) _ _ _ (λ _. ending-kept g _ _ j _) (λ _. h _ _ j))
+        choose-ind (Same g) _ _ _ (λ _. ending-kept g 0 s i _ 0) (λ _. choose-ind (Same g) _ _ _ (λ _. ending-kept g _ _ j _ _) (λ _. h _ _ j _))
 
   -- ---- each call
 
@@ -172,8 +173,8 @@ module _ (limit capacity : ℕ) where
     unfolding breaks
     breaks-kept b =
         unless-ind (Same g) s _ _ (refused-kept _)
-        (λ h. choose-ind (Same g) _ _ _ (λ _. ending-kept g 0 s (goes (h .0) (s .worker) refl refl) _)
-        (λ _. choose-ind (Same g) _ _ _ (λ _. ending-kept g 0 s (goes (h .0) (s .worker) refl refl) _)
+        (λ h. choose-ind (Same g) _ _ _ (λ _. ending-kept g 0 s (goes (h .0) (s .worker) refl refl) _ 0)
+        (λ _. choose-ind (Same g) _ _ _ (λ _. ending-kept g 0 s (goes (h .0) (s .worker) refl refl) _ 0)
         (λ _. record { inv = record { bytes = i .bytes; count = count-zero (count-on (h .0) refl (i .count)) } })))
 
     judges-kept : (v : ℕ) → Same g (judges v s)
@@ -216,8 +217,3 @@ module _ (limit capacity : ℕ) where
   step-kept (break b) r i = after-call (break b) (breaks b (r .session)) r ((breaks-kept (r .session) (r .notes) (i .inv) b) .inv)
   step-kept (judge v) r i = after-call (judge v) (judges v (r .session)) r ((judges-kept (r .session) (r .notes) (i .inv) v) .inv)
   step-kept (failedAttempt b v) r i = after-call (failedAttempt b v) (fails b v (r .session)) r ((fails-kept (r .session) (r .notes) (i .inv) b v) .inv)
-
-  pub calls-kept : (cs : List Call) (r : Run) → CalledAt r → CalledAt (calledAll cs r)
-  unfolding calledAll
-  calls-kept [] r i = i
-  calls-kept (c ∷ cs) r i = calls-kept cs _ (step-kept c r i)

@@ -10,13 +10,12 @@ use lib.IntN.{ℤ, pos, negsuc, _+ℤ_}
 use lib.Dec.{leb, ltb}
 use borrow.Author.Tests.{leb-true, leb-false}
 use Rattle.crc32c.specs.Reg.{crcOf}
-use Rattle.rules.specs.Message.{Bytes, Response}
-use Rattle.rules.specs.Session.{ReplayChunk, Session, Call, response, bytesOf, chunks, isNil}
+use Rattle.rules.specs.Message.{Bytes}
+use Rattle.rules.specs.Session.{ReplayChunk, Session, Call, bytesOf, chunks, isNil}
 use Rattle.rules.specs.Respond.{trimmed, ack, pushedEnd}
-use Rattle.rules.specs.Step.{step}
 use Rattle.rules.specs.Opening.{Opening, opened, opens, openSize, larger, payloadLength, openChunks, openSession}
 use Rattle.rules.specs.Server.{Stored}
-use Rattle.rules.specs.World.{World, Event, hostCalls, hostHands, hostSends, hostGreets, serverTakes, serverPersists, serverSays, linkCuts, unprompted, handsOn, happens, runs, notesAt, start}
+use Rattle.rules.specs.World.{Event, runs, notesAt, start}
 use Rattle.rules.specs.Demand3.{Numbered}
 use Rattle.rules.specs.Basics.{All}
 use Rattle.rules.specs.Calls.{Run, calledAll, begin, EndToEnd, HoldsCalled, CallsHold}
@@ -24,7 +23,8 @@ use Rattle.rules.proofs.Tests.{never}
 use Rattle.rules.proofs.Lists.{cond-ind, Chain}
 use Rattle.rules.proofs.Accepted.{Accepted, accepted}
 use Rattle.rules.proofs.CalledInv.{Line, ack-shorter, ack-line, numbers-get}
-use Rattle.rules.proofs.Called.{CalledAt, step-kept, calls-kept}
+use Rattle.rules.proofs.Called.{CalledAt, step-kept}
+use Rattle.rules.proofs.Runs.{runOf, calls-kept, runs-kept}
 
 -- ---- at the opening
 
@@ -57,7 +57,7 @@ open-line (some b) (pos a) =
     subst (Line (openChunks (some b) (pos a))) q (ack-line (pos a) (payloadChunk b ∷ []) 0 (length b) (refl, refl, omega arith)))
 open-line (some b) (negsuc a) = ack-line (negsuc a) (payloadChunk b ∷ []) 0 (length b) (refl, refl, omega arith)
 
-open-stored : (payload : Option Bytes) (p : ℤ) → length (bytesOf (openChunks payload p)) ≤ payloadLength payload
+pub open-stored : (payload : Option Bytes) (p : ℤ) → length (bytesOf (openChunks payload p)) ≤ payloadLength payload
 open-stored none p = omega arith
 open-stored (some b) p =
     let h : length (bytesOf (openChunks (some b) p)) ≤ length (b ++ []) = ack-shorter p _ in
@@ -91,7 +91,7 @@ opening-called o s base a =
 
 pub always-called : (o : Opening) (s : Session) → opens o ≡ opened s → (cs : List Call) → CalledAt (s .limit) (s .worker .replayBuffer .capacity) (calledAll cs (begin o s))
 unfolding begin
-always-called o s a cs = calls-kept (s .limit) (s .worker .replayBuffer .capacity) cs (begin o s) (opening-called o s _ a)
+always-called o s a cs = calls-kept (CalledAt (s .limit) (s .worker .replayBuffer .capacity)) (step-kept _ _) cs (begin o s) (opening-called o s _ a)
 
 ends-meet : (cs : List ReplayChunk) (a b : ℕ) → Chain a cs b → EndToEnd cs
 ends-meet [] a b h = tt
@@ -131,38 +131,11 @@ holds-called r i =
 pub calls-hold : CallsHold
 calls-hold o s a cs = holds-called (calledAll cs (begin o s)) (always-called o s a cs)
 
--- ---- of events, whose calls are calls
-
-abbrev runOf : World → Run
-runOf w = record { session = w .session; notes = w .notes }
-
-module _ (limit capacity : ℕ) where
-  abbrev CalledIn : World → Type 0
-  CalledIn w = CalledAt limit capacity (runOf w)
-
-  hands-kept : (ms : List Response) (could keep : Bool) (w : World) → CalledIn w → CalledIn (handsOn ms could keep (λ c. step c (w .session)) w)
-  hands-kept [] could keep w i = i
-  hands-kept (m ∷ rest) could keep w i = step-kept limit capacity (response m) (runOf w) i
-
-  happens-kept : (e : Event) (w : World) → CalledIn w → CalledIn (happens e w)
-  unfolding happens
-  happens-kept (hostCalls c could) w i = cond-ind CalledIn (unprompted c) (λ _. step-kept limit capacity c (runOf w) i) (λ _. i)
-  happens-kept (hostHands could keep) w i = hands-kept (w .server .link .messages) could keep w i
-  happens-kept (hostSends n) w i = i
-  happens-kept (hostGreets t handle) w i = step-kept limit capacity _ (runOf w) i
-  happens-kept (serverTakes bytes had) w i = i
-  happens-kept (serverPersists n) w i = i
-  happens-kept (serverSays t handle) w i = cond-ind CalledIn (w .server .link .alive) (λ _. i) (λ _. i)
-  happens-kept (linkCuts bytes had) w i = i
-
-  runs-kept : (es : List Event) (w : World) → CalledIn w → CalledIn (runs es w)
-  unfolding runs
-  runs-kept [] w i = i
-  runs-kept (e ∷ es) w i = runs-kept es (happens e w) (happens-kept e w i)
+-- ---- after every list of events
 
 pub numbered-runs : (o : Opening) (s : Session) → opens o ≡ opened s → (k : Stored) (es : List Event)
     → Numbered ((runs es (start o s k)) .session) ((runs es (start o s k)) .notes)
 unfolding start
 numbered-runs o s a k es =
     numbered-called (runOf (runs es (start o s k)))
-    (runs-kept (s .limit) (s .worker .replayBuffer .capacity) es (start o s k) (opening-called o s _ a))
+    (runs-kept (CalledAt (s .limit) (s .worker .replayBuffer .capacity)) (step-kept _ _) es (start o s k) (opening-called o s _ a))

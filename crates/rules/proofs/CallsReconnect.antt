@@ -40,7 +40,7 @@ quiet {w} ph mark c e f g h i = record {
 
 -- the session ends
 quiet-ends : {from : ℕ} (could : Bool) (w : World) (cause : Cause) (c : Connector) → isRegress cause ≡ false → Inv from w
-    → Other from could w (ending cause 0 (setWorker (setConnector c (w .session .worker)) (w .session)))
+    → Other from could w (ending cause 0 0 (setWorker (setConnector c (w .session .worker)) (w .session)))
 unfolding ending
 quiet-ends could w cause c h i = record {
   inv = record {

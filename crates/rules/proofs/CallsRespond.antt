@@ -52,12 +52,12 @@ updatedTo c s = setWorker (setConnector c (setMark false (s .worker))) s
 
 -- ---- a size that is not below P
 
-takes-ind : (Q : Result → Type 0) (n : ℤ) (f : Bool) (s : Session) (last : ℕ → Session → Result) → (ltZ n (s .worker .persistedSize) ≡ true → ⊥)
-    → Q (ending alreadyFinalized (satisfied n f (waiters s)) (setWorker (absorbs n f (s .worker)) s))
-    → Q (last (satisfied n f (waiters s)) (setWorker (absorbs n f (s .worker)) s))
+takes-ind : (Q : Result → Type 0) (n : ℤ) (f : Bool) (s : Session) (last : ℕ → ℕ → Session → Result) → (ltZ n (s .worker .persistedSize) ≡ true → ⊥)
+    → ((released : ℕ) → Q (ending alreadyFinalized (satisfied n f (waiters s)) released (setWorker (absorbs n f (s .worker)) s)))
+    → ((released : ℕ) → Q (last (satisfied n f (waiters s)) released (setWorker (absorbs n f (s .worker)) s)))
     → Q (takes (some n) f s last)
 unfolding takes
-takes-ind Q n f s last l a b = choose-ind Q _ _ _ (λ e. absurd (l e)) (λ _. choose-ind Q _ _ _ (λ _. a) (λ _. b))
+takes-ind Q n f s last l a b = choose-ind Q _ _ _ (λ e. absurd (l e)) (λ _. choose-ind Q _ _ _ (λ _. a _) (λ _. b _))
 
 -- for a message and a handshake alike: the size n, in a finalised statement or not
 module _ {from : ℕ} (w : World) (i : Inv from w) (n : ℕ) (f : Bool) (up : i .p ≤ n) (within : n ≤ length (i .K)) (true-final : f ≡ true → w .server .stored .finalised ≡ true) where
@@ -76,7 +76,7 @@ module _ {from : ℕ} (w : World) (i : Inv from w) (n : ℕ) (f : Bool) (up : i 
   unfolding ending toReplay
   greet-keeps c size e =
       takes-ind (Greeted from (some (pos n)) w) (pos n) f _ toReplay not-below
-      (record {
+      (λ _. record {
         inv = record {
           K = i .K;
           p = n;
@@ -90,7 +90,7 @@ module _ {from : ℕ} (w : World) (i : Inv from w) (n : ℕ) (f : Bool) (up : i 
           handed = handed-none (i .handed);
         };
       })
-      (record {
+      (λ _. record {
         inv = record {
           K = i .K;
           p = n;
@@ -136,16 +136,16 @@ left n kept rest false high final h = h
 
 module _ {from : ℕ} (kept rest : List Response) (could keep : Bool) (w : World) where
   -- the last step of a response: a bare flush or not
-  last-keeps : (o : Option ℤ) (k : ℕ) (s : Session) (K : Bytes) (p : ℕ) → from ≤ p
+  last-keeps : (o : Option ℤ) (k released : ℕ) (s : Session) (K : Bytes) (p : ℕ) → from ≤ p
       → BufferOK K p (stockOf s) (record { limit = w .notes .limit; all = w .notes .all; loose = w .notes .loose; largest = largestOf (w .notes .largest) o })
       → WaitOK K p (s .writer .held) (waiters s) (s .worker .finalized) (isEnded (s .phase)) (w .notes .marks) (w .notes .completed + k) (w .server .stored .finalised)
       → ServerOK K p (s .worker .finalized) (onLink (setMessages (cond (keep && false) kept rest)) (w .server))
       → FlowOK K p (s .phase) (chunks s) (onLink (setMessages (cond (keep && false) kept rest)) (w .server))
       → HandedOK K (s .worker .finalized) (w .notes .handed)
       → isReplay (s .phase) ≡ false → isEnded (s .phase) ≡ false → isRegressed (s .phase) ≡ false
-      → Stated from o kept rest could keep w (lastStep k s)
+      → Stated from o kept rest could keep w (lastStep k released s)
   unfolding lastStep
-  last-keeps o k s K p from-p b q v fl hd r e st =
+  last-keeps o k released s K p from-p b q v fl hd r e st =
       choose-ind (Stated from o kept rest could keep w) _ _ _
       (λ _. record {
         inv = record {
@@ -182,7 +182,7 @@ module _ {from : ℕ} (kept rest : List Response) (could keep : Bool) (w : World
       → isReplay (w .session .phase) ≡ false → isEnded (w .session .phase) ≡ false → Stated from none kept rest could keep w (takes none f (updatedTo c (w .session)) lastStep)
   unfolding takes
   silent-keeps i f c h r e =
-      last-keeps none 0 (updatedTo c (w .session)) (i .K) (i .p) (i .since) (i .buffer) (wait-zero (i .wait)) (server-messages _ (left (i .p) kept rest keep _ _ h) (i .server)) (flow-messages _ (i .flow))
+      last-keeps none 0 0 (updatedTo c (w .session)) (i .K) (i .p) (i .since) (i .buffer) (wait-zero (i .wait)) (server-messages _ (left (i .p) kept rest keep _ _ h) (i .server)) (flow-messages _ (i .flow))
       (i .handed) r e (i .steady)
 
   -- a size
@@ -192,7 +192,7 @@ module _ {from : ℕ} (kept rest : List Response) (could keep : Bool) (w : World
   unfolding ending
   size-keeps i n f c l t h r e =
       takes-ind (Stated from (some (pos n)) kept rest could keep w) (pos n) f (updatedTo c (w .session)) lastStep (not-below w i n f l within t)
-      (record {
+      (λ _. record {
         inv = record {
           K = i .K;
           p = n;
@@ -206,7 +206,7 @@ module _ {from : ℕ} (kept rest : List Response) (could keep : Bool) (w : World
           handed = handed-none (i .handed);
         };
       })
-      (last-keeps (some (pos n)) _ (setWorker (absorbs (pos n) f ((updatedTo c (w .session)) .worker)) (updatedTo c (w .session))) (i .K) n (since-is w i n f l within t)
+      (λ _. last-keeps (some (pos n)) _ _ (setWorker (absorbs (pos n) f ((updatedTo c (w .session)) .worker)) (updatedTo c (w .session))) (i .K) n (since-is w i n f l within t)
       (buffer-acks n l within (i .buffer)) (wait-is w i n f l within t) server-is (flow-off e r r (flow-messages _ (i .flow))) (i .handed) r e (i .steady))
     where
       within : n ≤ length (i .K)

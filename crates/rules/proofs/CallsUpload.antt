@@ -36,6 +36,7 @@ cutNotes all loose r g = record {
   largest = g .largest;
   marks = g .marks;
   completed = g .completed + 0;
+  released = g .released + 0;
   handed = g .handed ++ (r ∷ []);
   greeted = g .greeted;
   carried = g .carried ++ contentOf (r .checksummedData);
@@ -138,10 +139,10 @@ finalise-keeps out could w i = (asks-keeps finalizing out could w i) .inv
 abbrev looseAfter : ℕ → ℕ → ℕ
 looseAfter limit h = cond (leb limit h) 0 h
 
-after-full : (limit limit′ a b : ℕ) → limit ≡ limit′ → a ≡ b → leb limit′ b ≡ true → looseAfter limit a ≡ 0
+pub after-full : (limit limit′ a b : ℕ) → limit ≡ limit′ → a ≡ b → leb limit′ b ≡ true → looseAfter limit a ≡ 0
 after-full limit limit′ a b d e f = ap (λ (x : ℕ). looseAfter x a) d ∙ ap (looseAfter limit′) e ∙ ap (λ (t : Bool). cond t 0 b) f
 
-after-part : (limit limit′ a b : ℕ) → limit ≡ limit′ → a ≡ b → leb limit′ b ≡ false → looseAfter limit a ≡ b
+pub after-part : (limit limit′ a b : ℕ) → limit ≡ limit′ → a ≡ b → leb limit′ b ≡ false → looseAfter limit a ≡ b
 after-part limit limit′ a b d e f = ap (λ (x : ℕ). looseAfter x a) d ∙ ap (looseAfter limit′) e ∙ ap (λ (t : Bool). cond t 0 b) f
 
 appends-keeps : {from : ℕ} (d : Bytes) (out : ℕ) (could : Bool) (w : World) → Inv from w → Appended from d could w (appends d out (w .session))

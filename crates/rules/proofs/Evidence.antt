@@ -4,4 +4,5 @@ pub mod Table
 pub mod Points
 pub mod Refusals
 pub mod Cases
+pub mod Releases
 pub mod Scenarios

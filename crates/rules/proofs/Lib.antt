@@ -14,12 +14,14 @@ pub mod CallsRespond
 pub mod Keeps
 pub mod Accepted
 pub mod Start
+pub mod Runs
 pub mod CalledInv
 pub mod Called
 pub mod CalledStart
 pub mod Turns
 pub mod Demand3
 pub mod Beyond
+pub mod Released
 pub mod Total
 pub mod Bound
 pub mod Program

@@ -53,27 +53,27 @@ unless-refusing detail s (t ∷ ts) r e h =
 
 -- ---- past its refusals a call is accepted
 
-ending-went : (c : Cause) (k : ℕ) (s : Session) → Went (ending c k s)
+ending-went : (c : Cause) (k released : ℕ) (s : Session) → Went (ending c k released s)
 unfolding ending
-ending-went c k s = record { went = refl }
+ending-went c k released s = record { went = refl }
 
-takes-went : (n : Option ℤ) (f : Bool) (s : Session) (last : ℕ → Session → Result) → ((k : ℕ) (t : Session) → Went (last k t)) → Went (takes n f s last)
+takes-went : (n : Option ℤ) (f : Bool) (s : Session) (last : ℕ → ℕ → Session → Result) → ((k released : ℕ) (t : Session) → Went (last k released t)) → Went (takes n f s last)
 unfolding takes
-takes-went none f s last h = h 0 s
-takes-went (some n) f s last h = choose-ind Went _ _ _ (λ e. ending-went _ 0 s) (λ e. choose-ind Went _ _ _ (λ i. ending-went _ _ _) (λ i. h _ _))
+takes-went none f s last h = h 0 0 s
+takes-went (some n) f s last h = choose-ind Went _ _ _ (λ e. ending-went _ 0 0 s) (λ e. choose-ind Went _ _ _ (λ i. ending-went _ _ _ _) (λ i. h _ _ _))
 
-last-went : (k : ℕ) (s : Session) → Went (lastStep k s)
+last-went : (k released : ℕ) (s : Session) → Went (lastStep k released s)
 unfolding lastStep
-last-went k s = choose-ind Went _ _ _ (λ e. record { went = refl }) (λ e. record { went = refl })
+last-went k released s = choose-ind Went _ _ _ (λ e. record { went = refl }) (λ e. record { went = refl })
 
-replay-went : (k : ℕ) (s : Session) → Went (toReplay k s)
+replay-went : (k released : ℕ) (s : Session) → Went (toReplay k released s)
 unfolding toReplay
-replay-went k s = record { went = refl }
+replay-went k released s = record { went = refl }
 
 ruled-went : (c : Option Cause) (s : Session) → Went (ruled c s)
 unfolding ruled
 ruled-went none s = record { went = refl }
-ruled-went (some c) s = ending-went c 0 s
+ruled-went (some c) s = ending-went c 0 0 s
 
 waiter-went : (p : Option PendingRequest) (i : ℕ) (s : Session) → Went (handsWaiter p i s)
 unfolding handsWaiter
@@ -85,8 +85,8 @@ unfolding handsChunk
 chunk-went none i s = waiter-went (getElem? (waiters s) (i - length (chunks s))) i s
 chunk-went (some c) i s = record { went = refl }
 
-break-went : (a b : Bool) (c : Cause) (s : Session) (r : Result) → Went r → Went (choose a (ending finished 0 s) (choose b (ending c 0 s) r))
-break-went a b c s r h = choose-ind Went _ _ _ (λ e. ending-went _ 0 s) (λ e. choose-ind Went _ _ _ (λ f. ending-went c 0 s) (λ f. h))
+break-went : (a b : Bool) (c : Cause) (s : Session) (r : Result) → Went r → Went (choose a (ending finished 0 0 s) (choose b (ending c 0 0 s) r))
+break-went a b c s r h = choose-ind Went _ _ _ (λ e. ending-went _ 0 0 s) (λ e. choose-ind Went _ _ _ (λ f. ending-went c 0 0 s) (λ f. h))
 
 step-refusing : (c : Call) (s : Session) → Refusing (bringsDetail c) s (step c s)
 unfolding step appends asks hands closes unsent responds shakes breaks judges fails
@@ -116,11 +116,11 @@ goes-on n (refused k) e = never (sym e)
 goes-on n (took k r) e = refl
 goes-on n (sends r) e = refl
 goes-on n (waits r k) e = refl
-goes-on n (completes k r) e = refl
+goes-on n (completes k m r) e = refl
 goes-on n (attempt k) e = refl
 goes-on n ok e = refl
 goes-on n done e = refl
-goes-on n (ends c k f) e = refl
+goes-on n (ends c k m f) e = refl
 
 -- where the table has no 15
 other-number : (a : Answer) → ((n : ℕ) → a ≡ refused n → inTable false n ≡ true) → refusedWith 15 a ≡ false
@@ -132,11 +132,11 @@ other-number (refused k) h = at (eqb k 15) refl
 other-number (took k r) h = refl
 other-number (sends r) h = refl
 other-number (waits r k) h = refl
-other-number (completes k r) h = refl
+other-number (completes k m r) h = refl
 other-number (attempt k) h = refl
 other-number ok h = refl
 other-number done h = refl
-other-number (ends c k f) h = refl
+other-number (ends c k m f) h = refl
 
 -- the tests of a break, and of a failed attempt, in their order
 of-break : (over phase malformed long : Bool) (s : Session) (r : Result) → Went r

@@ -20,5 +20,6 @@ pub mod Demand3
 pub mod Beyond
 pub mod Calls
 pub mod Total
+pub mod Released
 pub mod Push
 pub mod Bench

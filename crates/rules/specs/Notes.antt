@@ -17,6 +17,7 @@ pub record Notes : Type 0 where
   pub largest : ℤ  -- the largest of the "sizes stated"
   pub marks : List Mark  -- the waiters made, lowest number first
   pub completed : ℕ  -- "The waiters reported completed are those with the lowest numbers, as many as the answers so far add up to."
+  pub released : ℕ  -- the bytes that the opening and the answers so far released, added up
   pub handed : List Request  -- every request handed out
   -- the last accepted handshake's size; the chunk data handed out since, joined; whether the last accepted call answered *done*
   pub greeted : ℤ
@@ -26,27 +27,31 @@ pub record Notes : Type 0 where
 pub record Shows : Type 0 where  -- what an answer shows
   pub accepted : Bool
   pub request : Option Request
-  -- the number of a waiter made; how many are reported completed
+  -- the number of a waiter made; how many are reported completed; the bytes released
   pub waiter : Option ℕ
   pub completed : ℕ
+  pub released : ℕ
   pub isDone : Bool  -- the replay is done
 
 abbrev pub shows : Answer → Shows
-shows (refused n) = record { accepted = false; request = none; waiter = none; completed = 0; isDone = false }
-shows (took n r) = record { accepted = true; request = r; waiter = none; completed = 0; isDone = false }
-shows (sends r) = record { accepted = true; request = some r; waiter = none; completed = 0; isDone = false }
-shows (waits r n) = record { accepted = true; request = some r; waiter = some n; completed = 0; isDone = false }
-shows (completes k r) = record { accepted = true; request = r; waiter = none; completed = k; isDone = false }
-shows (attempt n) = record { accepted = true; request = none; waiter = none; completed = 0; isDone = false }
-shows ok = record { accepted = true; request = none; waiter = none; completed = 0; isDone = false }
-shows done = record { accepted = true; request = none; waiter = none; completed = 0; isDone = true }
-shows (ends c k f) = record { accepted = true; request = none; waiter = none; completed = k; isDone = false }
+shows (refused n) = record { accepted = false; request = none; waiter = none; completed = 0; released = 0; isDone = false }
+shows (took n r) = record { accepted = true; request = r; waiter = none; completed = 0; released = 0; isDone = false }
+shows (sends r) = record { accepted = true; request = some r; waiter = none; completed = 0; released = 0; isDone = false }
+shows (waits r n) = record { accepted = true; request = some r; waiter = some n; completed = 0; released = 0; isDone = false }
+shows (completes k n r) = record { accepted = true; request = r; waiter = none; completed = k; released = n; isDone = false }
+shows (attempt n) = record { accepted = true; request = none; waiter = none; completed = 0; released = 0; isDone = false }
+shows ok = record { accepted = true; request = none; waiter = none; completed = 0; released = 0; isDone = false }
+shows done = record { accepted = true; request = none; waiter = none; completed = 0; released = 0; isDone = true }
+shows (ends c k n f) = record { accepted = true; request = none; waiter = none; completed = k; released = n; isDone = false }
 
 abbrev pub accepted : Answer → Bool
 accepted a = (shows a) .accepted
 
 abbrev pub requestIn : Answer → Option Request
 requestIn a = (shows a) .request
+
+abbrev pub releasedIn : Answer → ℕ
+releasedIn a = (shows a) .released
 
 abbrev pub listed : Option Request → List Request
 listed = elim [ none ↦ [] | some r ↦ r ∷ [] ]
@@ -85,6 +90,10 @@ brings (failedAttempt b v) = plain
 abbrev pub taken : Bytes → Notes → Bytes  -- "the first t bytes of each accepted append, t the smaller of its length and C − h"
 taken d g = take (min (length d) (g .limit - g .loose)) d
 
+abbrev pub allWith : Option Bytes → Notes → Bytes
+allWith none g = g .all
+allWith (some d) g = g .all ++ taken d g
+
 -- "h ... grows by t, and goes back to 0 on reaching C, and at an accepted flush or finalise"
 abbrev pub looseWith : Option Bytes → Option PendingKind → Notes → ℕ
 looseWith none none g = g .loose
@@ -102,11 +111,12 @@ largestOf z = elim [ none ↦ z | some n ↦ larger z n ]
 abbrev pub noted : Brings → Shows → Notes → Notes  -- an accepted call is noted
 noted b a g = record {
   limit = g .limit;
-  all = elim (b .bytes) [ none ↦ g .all | some d ↦ g .all ++ taken d g ];
+  all = allWith (b .bytes) g;
   loose = looseWith (b .bytes) (b .kind) g;
   largest = largestOf (g .largest) (b .size);
   marks = marksWith (b .kind) (a .waiter) g;
   completed = g .completed + a .completed;
+  released = g .released + a .released;
   handed = g .handed ++ listed (a .request);
   greeted = cond (b .handshake) (Option·getD (b .size) (g .greeted)) (g .greeted);
   carried = cond (b .handshake) [] (g .carried ++ dataIn (a .request));

@@ -1,10 +1,10 @@
 -- "Opening": refusals 1 to 5 in order, else the session that the calls start from (`connect_attempt`, `start_worker`).
-use Rattle.rules.specs.Basics.{Bool, true, false, not, cond, _&&_, _||_, Option, none, some, Option·getD, List, [], _∷_, ℕ, _+_, _*_, max, length, leb, ltb, eqb, ℤ, pos, leZ}
+use Rattle.rules.specs.Basics.{Bool, true, false, not, cond, _&&_, _||_, Option, none, some, Option·getD, List, [], _∷_, ℕ, _+_, _*_, _-_, max, length, leb, ltb, eqb, ℤ, pos, leZ}
 use Rattle.rules.specs.Limits.{maxChunk, maxCapacity, defaultCapacity, storeSize}
 use Rattle.crc32c.specs.Reg.{crcOf}
 use Rattle.rules.specs.Message.{Bytes, Response, sizeOf, isFinalized, over, maxHandle, maxToken}
 use Rattle.rules.specs.Spec.{AppendObjectSpecState, bucketOf, objectOf, tokenOf, handleOf, handleResponse}
-use Rattle.rules.specs.Session.{ReplayChunk, live, nothing, Session, Rows}
+use Rattle.rules.specs.Session.{ReplayChunk, live, nothing, Session, stored, Rows}
 use Rattle.rules.specs.Respond.{ack}
 
 pub record Opening : Type 0 where
@@ -83,6 +83,9 @@ openSession o = record {
     selfFlushOutstanding = false;
   };
 }
+
+abbrev pub openReleased : Opening → ℕ  -- "the opening does so for its payload": the payload's length less what is stored of it
+openReleased o = payloadLength (o .payload) - stored (openSession o)
 
 unfoldable pub first : Rows → Opened → Opened
 first [] r = r

@@ -22,8 +22,8 @@ attempted false c = setCounters (min (suc (c .counters .attemptCount)) (2 ^ 32 -
 unfoldable pub breaks : Break → Session → Result
 breaks b s =
     unless s (checks ((isEnded (s .phase), 7) ∷ (not (isLive (s .phase) || isClosing (s .phase)), 6) ∷ (isMalformed b, 15) ∷ (overlong (redirectIn b), 4) ∷ []))
-    (choose (complete s) (ending finished 0 s)
-    (choose (isClosing (s .phase)) (ending (cond (isEnd b) finished streamError) 0 s)
+    (choose (complete s) (ending finished 0 0 s)
+    (choose (isClosing (s .phase)) (ending (cond (isEnd b) finished streamError) 0 0 s)
     (let c = attempted (isRedirect b) (progress (some (s .worker .persistedSize)) (rerouted (redirectIn b) (s .worker .connector))) in
     answers (attempt (cond (isRedirect b) 0 (c .counters .attemptCount)))
     (setPhase (verdict (isRedirect b)) nothing (setWorker (setConnector c (setMark false (s .worker))) s)))))
@@ -43,7 +43,7 @@ counted true c = setCounters (c .counters .attemptCount) (suc (c .counters .redi
 
 unfoldable pub ruled : Option Cause → Session → Result  -- "Continue leads to connecting."
 ruled none s = answers ok (setPhase connecting nothing s)
-ruled (some c) s = ending c 0 s
+ruled (some c) s = ending c 0 0 s
 
 abbrev pub noVerdict : ℕ → Bool
 noVerdict v = ltb v 1 || ltb 4 v

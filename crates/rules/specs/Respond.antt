@@ -1,9 +1,9 @@
 -- Responses and handshakes: `handle_response_success` of worker.rs, `ack` of replay_buffer.rs.
-use Rattle.rules.specs.Basics.{Bool, true, false, not, cond, _&&_, _||_, Option, none, some, List, [], _∷_, ℕ, suc, length, drop, ℤ, pos, natAbs, _+ℤ_, _-ℤ_, leZ, ltZ}
+use Rattle.rules.specs.Basics.{Bool, true, false, not, cond, _&&_, _||_, Option, none, some, List, [], _∷_, ℕ, suc, _-_, length, drop, ℤ, pos, natAbs, _+ℤ_, _-ℤ_, leZ, ltZ}
 use Rattle.crc32c.specs.Reg.{crcOf}
 use Rattle.rules.specs.Message.{Request, Response, sizeOf, isFinalized, over, maxHandle}
 use Rattle.rules.specs.Spec.{noted}
-use Rattle.rules.specs.Session.{ReplayChunk, Connector, PendingKind, flushing, finalizing, PendingRequest, Worker, replay, nothing, bareFlush, regressed, alreadyFinalized, Session, completes, Result, answers, working, setConnector, setMark, setCounters, setSpec, setWorker, setPhase, isLive, isClosing, isConnecting, isEnded, chunks, waiters, watermark, complete, choose, checks, unless, ending}
+use Rattle.rules.specs.Session.{ReplayChunk, Connector, PendingKind, flushing, finalizing, PendingRequest, Worker, replay, nothing, bareFlush, regressed, alreadyFinalized, Session, completes, Result, answers, working, setConnector, setMark, setCounters, setSpec, setWorker, setPhase, isLive, isClosing, isConnecting, isEnded, chunks, waiters, stored, watermark, complete, choose, checks, unless, ending}
 use Rattle.rules.specs.Upload.{flushRequest}
 
 abbrev pub endOffset : ReplayChunk → ℤ
@@ -33,14 +33,16 @@ absorbs n finalised w =
     working (w .connector) (ack n (w .replayBuffer .queue)) (drop (satisfied n finalised ps) ps) n (w .finalized) (w .selfFlushOutstanding) w
 
 -- "no size, only the last step below; size below P, end *regressed*; else P is the size ... A finalised response then ends the session,
--- *already finalised*, unless finalise was sent and no waiter is left." The last step is given the waiters completed.
-unfoldable pub takes : Option ℤ → Bool → Session → (ℕ → Session → Result) → Result
-takes none finalised s last = last 0 s
+-- *already finalised*, unless finalise was sent and no waiter is left." The last step is given the waiters completed and the bytes released:
+-- "The number is the stored total before less the stored total after."
+unfoldable pub takes : Option ℤ → Bool → Session → (ℕ → ℕ → Session → Result) → Result
+takes none finalised s last = last 0 0 s
 takes (some n) finalised s last =
-    choose (ltZ n (s .worker .persistedSize)) (ending regressed 0 s)
+    choose (ltZ n (s .worker .persistedSize)) (ending regressed 0 0 s)
     (let k = satisfied n finalised (waiters s) in
     let s′ = setWorker (absorbs n finalised (s .worker)) s in
-    choose (finalised && not (complete s′)) (ending alreadyFinalized k s′) (last k s′))
+    let released = stored s - stored s′ in
+    choose (finalised && not (complete s′)) (ending alreadyFinalized k released s′) (last k released s′))
 
 abbrev pub pushedEnd : ℤ → List ReplayChunk → ℤ  -- the last chunk's end
 pushedEnd z [] = z
@@ -50,11 +52,11 @@ pushedEnd z (c ∷ cs) = pushedEnd (endOffset c) cs
 abbrev pub bareRequest : Session → Request
 bareRequest s = flushRequest (pushedEnd (pos 0) (chunks s))
 
-unfoldable pub lastStep : ℕ → Session → Result  -- "If still live and the watermark holds, one bare flush request ... is sent and marked."
-lastStep k s =
+unfoldable pub lastStep : ℕ → ℕ → Session → Result  -- "If still live and the watermark holds, one bare flush request ... is sent and marked."
+lastStep k released s =
     choose (isLive (s .phase) && watermark s)
-    (answers (completes k (some (bareRequest s))) (setPhase (s .phase) bareFlush (setWorker (setMark true (s .worker)) s)))
-    (answers (completes k none) (setPhase (s .phase) nothing s))
+    (answers (completes k released (some (bareRequest s))) (setPhase (s .phase) bareFlush (setWorker (setMark true (s .worker)) s)))
+    (answers (completes k released none) (setPhase (s .phase) nothing s))
 
 abbrev pub updated : Response → Connector → Connector  -- "updates generation and handle as AppendObjectSpecState"
 updated m c = setSpec (noted m (c .spec)) c
@@ -69,8 +71,8 @@ abbrev pub progress : Option ℤ → Connector → Connector  -- "P above the la
 progress none c = c
 progress (some n) c = cond (ltZ (c .counters .lastPersistedSize) n) (setCounters 0 0 n c) c
 
-unfoldable pub toReplay : ℕ → Session → Result
-toReplay k s = answers (completes k none) (setPhase (replay 0) nothing s)
+unfoldable pub toReplay : ℕ → ℕ → Session → Result
+toReplay k released s = answers (completes k released none) (setPhase (replay 0) nothing s)
 
 -- "A handshake updates the spec; a size above the last one replaces it and zeroes the counters; the rest is as for a response, without
 -- bare flush, and leads to replay."

@@ -86,14 +86,14 @@ pub data Answer : Type 0 where
   took : ℕ → Option Request → Answer  -- append: bytes taken, and the request of the chunk that was cut
   sends : Request → Answer  -- flush, finalise: held bytes were cut, call again; next request: the one to send
   waits : Request → ℕ → Answer  -- flush, finalise: the request, and the number of the waiter made
-  completes : ℕ → Option Request → Answer  -- response, handshake: waiters completed, lowest numbers first, and a bare flush
+  completes : ℕ → ℕ → Option Request → Answer  -- response, handshake: waiters completed, lowest numbers first, bytes released, and a bare flush
   attempt : ℕ → Answer  -- break: the attempt number, 0 on a redirect
   ok : Answer  -- close, a verdict or failed attempt that goes on, a send reported failed
   done : Answer  -- next request: the replay is done
-  ends : Cause → ℕ → ℕ → Answer  -- the call ended the session: cause, waiters completed before, waiters failed or dropped
+  ends : Cause → ℕ → ℕ → ℕ → Answer  -- the call ended the session: cause, waiters completed and bytes released before, waiters failed or dropped
 
 abbrev pub refusedWith : ℕ → Answer → Bool
-refusedWith n = elim [ refused k ↦ eqb k n | took k r ↦ false | sends r ↦ false | waits r k ↦ false | completes k r ↦ false | attempt k ↦ false | ok ↦ false | done ↦ false | ends c k f ↦ false ]
+refusedWith x = elim [ refused k ↦ eqb k x | took k r ↦ false | sends r ↦ false | waits r k ↦ false | completes k n r ↦ false | attempt k ↦ false | ok ↦ false | done ↦ false | ends c k n f ↦ false ]
 
 pub record Result : Type 0 where
   pub answer : Answer
@@ -221,6 +221,6 @@ unfoldable pub unless : Session → Rows → Result → Result
 unless s [] r = r
 unless s (row ∷ rows) r = cond (row .0) (answers (refused (row .1)) s) (unless s rows r)
 
-unfoldable pub ending : Cause → ℕ → Session → Result  -- the session ends: every waiter fails or is dropped; stored and held bytes stay
-ending c completed s =
-    answers (ends c completed (length (waiters s))) (setPhase (ended c) nothing (setWorker (setPending [] (s .worker .finalized) (s .worker)) s))
+unfoldable pub ending : Cause → ℕ → ℕ → Session → Result  -- the session ends: every waiter fails or is dropped; stored and held bytes stay
+ending c completed released s =
+    answers (ends c completed released (length (waiters s))) (setPhase (ended c) nothing (setWorker (setPending [] (s .worker .finalized) (s .worker)) s))

@@ -16,6 +16,8 @@ pub record Total (from : ℕ) (w : World) : Type 0 where
   pub size : ℕ
   pub persisted : w .session .worker .persistedSize ≡ pos size
   pub total : length (w .notes .all) - from ≡ (min size (length (w .notes .all)) - from) + stored (w .session) + length (w .session .writer .held)
+  -- and these are the bytes that the opening and the answers released
+  pub released : w .notes .released ≡ min size (length (w .notes .all)) - from
 
 abbrev pub ByteTotal : Type 0
 ByteTotal = AlwaysSteps (λ o k w. Total (firstTaken (o .payload) (k .object)) w)

@@ -4,7 +4,7 @@ use Rattle.crc32c.specs.Reg.{crcOf}
 use Rattle.rules.specs.Message.{Bytes, Request, Response}
 use Rattle.rules.specs.Session.{Session, Call, response, handshake, Answer, Result}
 use Rattle.rules.specs.Step.{step}
-use Rattle.rules.specs.Opening.{Opening, openSize}
+use Rattle.rules.specs.Opening.{Opening, openSize, openReleased}
 use Rattle.rules.specs.Server.{Stored, Link, Server, setMessages, loses, carries, onLink, onStored, cutOff, connects, takesNext, persists, Told, says}
 use Rattle.rules.specs.Notes.{Notes, accepted, requestIn, Brings, brings, note}
 
@@ -114,6 +114,7 @@ notesAt o base = record {
   largest = openSize o;
   marks = [];
   completed = 0;
+  released = openReleased o;
   handed = [];
   greeted = openSize o;
   carried = [];

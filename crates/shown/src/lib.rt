@@ -1,7 +1,7 @@
 // Ported from google-cloud-storage 1.21.0, src/storage/bidi_write/transport.rs, Copyright 2026 Google LLC (Apache-2.0); changed: no tasks, channels or heap.
 // What a host may see of its session, by value, and of an answer.
 ghost use mathlib.Core.Path.{_≡_};
-ghost use Rattle.transport.specs.View.{handed};
+ghost use Rattle.transport.specs.View.{handed, released};
 ghost use Rattle.shown.specs.Shown.{Shown, Dials};
 use bidi_write::Offset;
 use state::AppendObjectSpec;
@@ -61,5 +61,22 @@ pub fn handed(answer: Answer) -> MaybeRequest
         Answer::Accepted => MaybeRequest::Absent,
         Answer::Done => MaybeRequest::Absent,
         Answer::Ends(_) => MaybeRequest::Absent,
+    }
+}
+
+// The bytes that an answer says were released.
+pub fn released(answer: Answer) -> usize
+    ensures { λ r. ⌜ r ≡ released answer ⌝ }
+{
+    match answer {
+        Answer::Refused(_) => 0,
+        Answer::Took(_, _) => 0,
+        Answer::Sends(_) => 0,
+        Answer::Waits(_, _) => 0,
+        Answer::Completes(c) => c.released,
+        Answer::Attempt(_) => 0,
+        Answer::Accepted => 0,
+        Answer::Done => 0,
+        Answer::Ends(e) => e.released,
     }
 }

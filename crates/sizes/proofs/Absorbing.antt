@@ -1,6 +1,6 @@
--- A size that is absorbed: what is left of the stored chunks and of the waiters, and that nothing else changed.
+-- A size that is absorbed: what is left of the stored chunks and of the waiters, the bytes released, and that nothing else changed.
 -- Assumes nothing.
-use mathlib.Core.Path.{_≡_, refl, sym, ap, _∙_, subst}
+use mathlib.Core.Path.{_≡_, refl, sym, ap, ap₂, _∙_, subst}
 use mathlib.Core.Bool.{Bool, false}
 use mathlib.Core.List.{List}
 use Prim.Native.Nat.{ℕ, _+_, _*_, _-_}
@@ -13,7 +13,9 @@ use Rattle.ring.specs.Ring.{part}
 use Rattle.bidi_write.specs.declared.Offset.{Offset}
 use Rattle.replay_buffer.specs.View.{Sound, lent, queueOf}
 use Rattle.replay_buffer.specs.Ack.{Acks}
+use Rattle.replay_buffer.specs.declared.Acked.{Acked}
 use Rattle.replay_buffer.specs.declared.ReplayBuffer.{ReplayBuffer}
+use Rattle.replay_buffer.proofs.Laws.{stored-bytes}
 use Rattle.worker.specs.View.{waitersOf, workerOf}
 use Rattle.worker.specs.declared.PendingRequests.{PendingRequests}
 use Rattle.worker.specs.declared.Worker.{Worker}
@@ -22,6 +24,7 @@ use Rattle.transport.specs.Valid.{GuardedAt, Valid}
 use Rattle.transport.specs.Parts.{setWorker}
 use Rattle.sizes.specs.Size.{Absorbs}
 use Rattle.transport.specs.declared.Session.{Session}
+use Rattle.transport.proofs.Numbers.{fits, stored-is}
 use Rattle.transport.proofs.Views.{no-cursor}
 
 -- the worker with P, the stored chunks and the waiters anew
@@ -36,11 +39,14 @@ absorbed b q n w = record {
 }
 
 module _ (n : Offset) (finalised : Bool) (s : Session) (store : Bytes) (table : List ℕ) (g : GuardedAt s (length store) (length table))
-    (rest : ReplayBuffer) (table′ : List ℕ) (acks : Acks (lentOf s) (s .worker .«replay_buffer») (endOf s) store table (n .0) rest table′)
+    (acked : Acked) (table′ : List ℕ) (acks : Acks (lentOf s) (s .worker .«replay_buffer») (endOf s) store table (n .0) acked table′)
     (same : length table′ ≡ length table)
     (k : ℕ) (k-is : k ≡ satisfied (n .0) finalised (waitersOf (s .worker .«pending_requests»)))
     (left : PendingRequests) (left-is : waitersOf left ≡ drop k (waitersOf (s .worker .«pending_requests»)))
     (count-is : left .count ≡ s .worker .«pending_requests» .count - k) where
+  abbrev rest : ReplayBuffer
+  rest = acked .buffer
+
   abbrev after : Session
   after = setWorker (absorbed rest left n (s .worker)) s
 
@@ -80,17 +86,26 @@ module _ (n : Offset) (finalised : Bool) (s : Session) (store : Bytes) (table : 
     started = acks .keeps .fits .started;
   }
 
+  sound : Valid s store table → Sound (s .limit) (lentOf after) rest table′
+  sound v = subst (λ (x : ℕ). Sound (s .limit) (lent x (s .slots)) rest table′) (sym size-is) (acks .sound (s .limit) (v .sound))
+
+  released-is : Valid s store table → acked .released ≡ R.stored (view s store table) - R.stored (view after store table′)
+  unfolding R.stored view workerOf
+  released-is v =
+      acks .released-is
+      ∙ ap₂ (λ (x y : ℕ). x - y) (sym (stored-is s store table v)) (sym (stored-bytes (lentOf after) rest (endOf s) store table′ (fits after _ _ guarded) (s .limit) (sound v)))
+
   stays : R.isReplay (phaseOf (s .phase)) ≡ false → Valid s store table → Valid after store table′
   stays e v = record {
     guarded = guarded;
     slots-in = v .slots-in;
-    sound = subst (λ (x : ℕ). Sound (s .limit) (lent x (s .slots)) rest table′) (sym size-is) (acks .sound (s .limit) (v .sound));
+    sound = sound v;
     waiting-is = ap length left-is ∙ length-drop k (waitersOf (s .worker .«pending_requests»)) ∙ ap (λ (x : ℕ). x - k) (v .waiting-is) ∙ sym count-is;
     spec-fits = v .spec-fits;
     followed = v .followed;
     cursor = no-cursor (s .phase) _ _ e;
   }
 
-  pub absorbs-size : Absorbs (n .0) finalised s store table (record { session = after; completed = k }) table′
+  pub absorbs-size : Absorbs (n .0) finalised s store table (record { session = after; settled = record { completed = k; released = acked .released } }) table′
   unfolding view workerOf
-  absorbs-size = record { phase-is = refl; beyond = acks .keeps .beyond; completed-is = k-is; view-is = view-is; stays = stays }
+  absorbs-size = record { phase-is = refl; beyond = acks .keeps .beyond; completed-is = k-is; released-is = released-is; view-is = view-is; stays = stays }

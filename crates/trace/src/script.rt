@@ -46,7 +46,7 @@ pub fn play(
     let o = open(part(input, 0, p.end), store, table, at);
     let s = o.session;
     let a = o.answer;
-    let n = opening(out, p.waiting, a);
+    let n = opening(out, p.waiting, a, o.released);
     match a {
         OpenAnswer::Refused(_) => pass(input, out, p.at, p.end, n),
         OpenAnswer::Opened => follow(input, out, store, table, room, p.printed(n), s),

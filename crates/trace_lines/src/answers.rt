@@ -14,15 +14,21 @@ use trace_text::text;
 use transport::Answer;
 use transport::MaybeRequest;
 
-pub fn opening(out: &mut [u8], n: usize, a: OpenAnswer) -> usize {
-    line(out, n, bench_lines::opening_line(a))
+// The line that the bench program prints, and behind it the bytes of the payload that an accepted opening released.
+pub fn opening(out: &mut [u8], n: usize, a: OpenAnswer, released: usize) -> usize {
+    let n = line(out, n, bench_lines::opening_line(a));
+    match a {
+        OpenAnswer::Refused(_) => n,
+        OpenAnswer::Opened => release(out, n, released),
+    }
 }
 
-// The line that the bench program prints, and behind it the request's, or the end's. The request's data fill the front of `room`.
+// The line that the bench program prints, and behind it that of the bytes released, the request's and the end's. The request's data fill the front of `room`.
 pub fn answer(out: &mut [u8], n: usize, call: Call, a: Answer, room: &[u8]) -> usize
     requires { ⌜ sentLength a ≤ length (now room) ⌝ }
 {
     let n = line(out, n, bench_lines::line(mark(call), a));
+    let n = released(out, n, call, a);
     let n = maybe_fields(out, n, shown::handed(a), room);
     ended(out, n, a)
 }
@@ -41,6 +47,23 @@ fn mark(call: Call) -> Mark {
         Call::Judge(_) => Mark::Verdict,
         Call::FailedAttempt(_, _) => Mark::FailedAttempt,
     }
+}
+
+// An accepted response or handshake tells it, one that ends the session too.
+fn released(out: &mut [u8], n: usize, call: Call, a: Answer) -> usize {
+    if let Answer::Refused(_) = a {
+        return n;
+    }
+    match call {
+        Call::Response(_) => release(out, n, shown::released(a)),
+        Call::Handshake(_) => release(out, n, shown::released(a)),
+        _ => n,
+    }
+}
+
+fn release(out: &mut [u8], n: usize, bytes: usize) -> usize {
+    let n = trace_text::number_field(out, n, b"  rl ", bytes as u64);
+    text(out, n, b"\n")
 }
 
 fn ended(out: &mut [u8], n: usize, a: Answer) -> usize {

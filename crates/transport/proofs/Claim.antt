@@ -1,4 +1,5 @@
--- Demand 3, what is stated beyond it, the byte total, and for any input what holds of the calls alone, for any list of which only the promises are known.
+-- Demand 3, what is stated beyond it, the byte total, the copies that a host needs, and for any input what holds of the calls alone, for any list of which
+-- only the promises are known.
 -- Assumes nothing.
 use mathlib.Core.Path.{_≡_, sym, ap, _∙_, subst}
 use Prim.Native.Nat.{ℕ, _+_, _-_, _≤_}
@@ -8,6 +9,7 @@ use Rattle.rules.specs.Opening.{Opening, opened, opens}
 use Rattle.rules.specs.Demand3.{Holds}
 use Rattle.rules.specs.Beyond.{HoldsBeyond}
 use Rattle.rules.specs.Total as total
+use Rattle.rules.specs.Released.{Accounted, MayDrop}
 use Rattle.rules.specs.Calls.{begin, HoldsCalled, leftBy}
 use Rattle.rules.proofs.Program as rules
 use Rattle.rules.proofs.Bound.{stored-bound}
@@ -32,10 +34,16 @@ program-beyond-demand3 = rules.program-beyond viewOf (Does Promises) Begins Vali
 pub program-byte-total : Always (λ o k w. total.Total (total.firstTaken (o .payload) (k .object)) w)
 program-byte-total = rules.program-byte-total viewOf (Does Promises) Begins ValidAt keeps begun
 
+pub program-copies-needed : Always (λ o k w. MayDrop (total.firstTaken (o .payload) (k .object)) w)
+program-copies-needed = rules.program-copies-needed viewOf (Does Promises) Begins ValidAt keeps begun
+
 -- ---- for any input
 
 pub program-calls-hold : AlwaysCalled (λ _ r. HoldsCalled r)
 program-calls-hold = rules.program-calls-hold viewOf (Does Promises) Begins ValidAt keeps begun
+
+pub program-released-total : AlwaysCalled (λ _ r. Accounted r)
+program-released-total = rules.program-released-total viewOf (Does Promises) Begins ValidAt keeps begun
 
 -- of any calls that keep what is valid
 module _ (Does′ : R.Call → Memory → R.Answer → Memory → Type 0) (Begins′ : Opening → Memory → Type 0)

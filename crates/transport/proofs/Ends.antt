@@ -55,16 +55,16 @@ withPending q w = record {
   «self_flush_outstanding» = w .«self_flush_outstanding»;
 }
 
-pub ends-as : (c : Cause) (completed : ℕ) (s : Session) (q : PendingRequests) → waitersOf q ≡ [] → q .count ≡ 0
-    → EndsAs c completed s (record {
+pub ends-as : (c : Cause) (completed released : ℕ) (s : Session) (q : PendingRequests) → waitersOf q ≡ [] → q .count ≡ 0
+    → EndsAs c completed released s (record {
       session = setPhase (phase.Ended c) sent.Nothing (setWorker (withPending q (s .worker)) s);
-      answer = answer.Ends (record { cause = c; completed = completed; failed = s .worker .«pending_requests» .count });
+      answer = answer.Ends (record { cause = c; completed = completed; released = released; failed = s .worker .«pending_requests» .count });
     })
 unfolding view workerOf R.ending
-ends-as c completed s q e n = record {
+ends-as c completed released s q e n = record {
   answer-is = refl;
   ends = λ store table out v.
-      ap₂ (λ (k : ℕ) (ws : List R.PendingRequest). R.answers (R.ends (causeOf c) completed k)
+      ap₂ (λ (k : ℕ) (ws : List R.PendingRequest). R.answers (R.ends (causeOf c) completed released k)
       (R.setPhase (R.ended (causeOf c)) R.nothing (R.setWorker (R.setPending ws (s .worker .finalized) (workerOf (lentOf s) (endOf s) (s .worker) store table)) (view s store table))))
       (sym (v .waiting-is)) e;
   stays = λ store table v. record {

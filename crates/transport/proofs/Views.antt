@@ -9,6 +9,7 @@ use borrow.Author.Tests.{eqb-true}
 use Rattle.rules.specs.Limits.{maxRedirects}
 use Rattle.rules.specs.Message.{Bytes}
 use Rattle.rules.specs.Session as R
+use Rattle.rules.specs.Notes.{releasedIn}
 use Rattle.bidi_write.specs.Refusal.{Rows, checked}
 use Rattle.bidi_write.specs.declared.Refusal.{Refusal}
 use Rattle.bidi_write.specs.declared.Check.the-variants as check
@@ -16,9 +17,11 @@ use Rattle.bidi_write.proofs.Rows.{first-false}
 use Rattle.state.specs.View.{SpecFits}
 use Rattle.connector.specs.declared.Connector.{Connector}
 use Rattle.replay_buffer.specs.View.{wordsOf}
-use Rattle.transport.specs.View.{phaseOf, sentOf, lentOf, view}
+use Rattle.transport.specs.View.{phaseOf, sentOf, lentOf, view, answerOf, released}
 use Rattle.transport.specs.Valid.{marked, owed, CursorAt, Valid}
 use Rattle.transport.specs.Parts.{setPhase, renewed}
+use Rattle.transport.specs.declared.Answer.{Answer}
+use Rattle.transport.specs.declared.Answer.the-variants as answer
 use Rattle.transport.specs.declared.Phase.{Phase}
 use Rattle.transport.specs.declared.Phase.the-variants as phase
 use Rattle.transport.specs.declared.Sent.{Sent}
@@ -29,6 +32,18 @@ pub view-phase : (p : Phase) (n : Sent) (s : Session) (store : Bytes) (table : L
     → view (setPhase p n s) store table ≡ R.setPhase (phaseOf p) (sentOf n) (view s store table)
 unfolding view
 view-phase p n s store table = refl
+
+-- the bytes that an answer says were released are the rules'
+pub released-is : (a : Answer) (out : Bytes) → released a ≡ releasedIn (answerOf a out)
+released-is (answer.Refused x) out = refl
+released-is (answer.Took n r) out = refl
+released-is (answer.Sends r) out = refl
+released-is (answer.Waits r n) out = refl
+released-is (answer.Completes c) out = refl
+released-is (answer.Attempt n) out = refl
+released-is answer.Accepted out = refl
+released-is answer.Done out = refl
+released-is (answer.Ends e) out = refl
 
 pub valid-phase : (p : Phase) (n : Sent) (s : Session) (store : Bytes) (table : List ℕ) → Valid s store table
     → (R.isEnded (phaseOf p) ≡ false → s .worker .connector .«redirects_followed» ≤ maxRedirects)

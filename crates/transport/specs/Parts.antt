@@ -55,8 +55,8 @@ renewed c mark p n s = setPhase p n (setWorker (record {
 }) s)
 
 -- r is the session s ended, as the rules end it
-pub record EndsAs (c : Cause) (completed : ℕ) (s : Session) (r : Outcome) : Type 0 where
-  pub answer-is : r .answer ≡ answer.Ends (record { cause = c; completed = completed; failed = s .worker .«pending_requests» .count })
+pub record EndsAs (c : Cause) (completed released : ℕ) (s : Session) (r : Outcome) : Type 0 where
+  pub answer-is : r .answer ≡ answer.Ends (record { cause = c; completed = completed; released = released; failed = s .worker .«pending_requests» .count })
   pub ends : (store : Bytes) (table : List ℕ) (out : Bytes) → Valid s store table
-      → R.answers (answerOf (r .answer) out) (view (r .session) store table) ≡ R.ending (causeOf c) completed (view s store table)
+      → R.answers (answerOf (r .answer) out) (view (r .session) store table) ≡ R.ending (causeOf c) completed released (view s store table)
   pub stays : (store : Bytes) (table : List ℕ) → Valid s store table → Valid (r .session) store table

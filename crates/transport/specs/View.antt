@@ -72,11 +72,11 @@ answerOf (answer.Refused x) out = R.refused (numberOf x)
 answerOf (answer.Took n r) out = R.took n (maybeOf r out)
 answerOf (answer.Sends r) out = R.sends (requestOf r out)
 answerOf (answer.Waits r n) out = R.waits (requestOf r out) n
-answerOf (answer.Completes c) out = R.completes (c .waiters) (maybeOf (c .request) out)
+answerOf (answer.Completes c) out = R.completes (c .waiters) (c .released) (maybeOf (c .request) out)
 answerOf (answer.Attempt n) out = R.attempt n
 answerOf answer.Accepted out = R.ok
 answerOf answer.Done out = R.done
-answerOf (answer.Ends e) out = R.ends (causeOf (e .cause)) (e .completed) (e .failed)
+answerOf (answer.Ends e) out = R.ends (causeOf (e .cause)) (e .completed) (e .released) (e .failed)
 
 -- the bytes that an answer says were taken
 abbrev pub takenIn : Answer → ℕ
@@ -89,6 +89,18 @@ takenIn (answer.Attempt n) = 0
 takenIn answer.Accepted = 0
 takenIn answer.Done = 0
 takenIn (answer.Ends e) = 0
+
+-- the bytes that it says were released
+abbrev pub released : Answer → ℕ
+released (answer.Refused x) = 0
+released (answer.Took n r) = 0
+released (answer.Sends r) = 0
+released (answer.Waits r n) = 0
+released (answer.Completes c) = c .released
+released (answer.Attempt n) = 0
+released answer.Accepted = 0
+released answer.Done = 0
+released (answer.Ends e) = e .released
 
 abbrev pub maybeLength : MaybeRequest → ℕ
 maybeLength maybe.Absent = 0

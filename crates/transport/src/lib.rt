@@ -56,16 +56,18 @@ pub enum MaybeRequest {
     Present(Request),
 }
 
-// Waiters completed, lowest numbers first, and a bare flush.
+// Waiters completed, lowest numbers first, bytes released, and a bare flush.
 pub struct Completed {
     pub waiters: usize,
+    pub released: usize,
     pub request: MaybeRequest,
 }
 
-// Why a session ended, the waiters completed before, and those that failed or were dropped.
+// Why a session ended, the waiters completed and the bytes released before, and the waiters that failed or were dropped.
 pub struct Ending {
     pub cause: Cause,
     pub completed: usize,
+    pub released: usize,
     pub failed: usize,
 }
 

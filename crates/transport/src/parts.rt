@@ -39,8 +39,8 @@ pub fn renew(s: Session, w: Worker, p: Phase, n: Sent) -> Session
 }
 
 // The session ends: every waiter fails or is dropped; stored and held bytes stay.
-pub fn end(s: Session, cause: Cause, completed: usize) -> Outcome
-    ensures { λ r. ⌜ EndsAs cause completed s r ⌝ }
+pub fn end(s: Session, cause: Cause, completed: usize, released: usize) -> Outcome
+    ensures { λ r. ⌜ EndsAs cause completed released s r ⌝ }
 {
     let w = s.worker;
     let q = w.pending_requests;
@@ -54,6 +54,7 @@ pub fn end(s: Session, cause: Cause, completed: usize) -> Outcome
         answer: Answer::Ends(Ending {
             cause,
             completed,
+            released,
             failed,
         }),
     }

@@ -38,7 +38,7 @@ same-length-2 c = search needs
 
 returns-2 : tie.Need-returns-2
 returns-2 c =
-    let started = c .before .before .before .before .before in
+    let started = c .before .before .before .before .before .before in
     let told = started .before .before .before in
     rw (c .writer2 .ensures) (opens-accepted (told .before .before .admit .ensures) (told .enum-told .given .1) (started .start .ensures))
 

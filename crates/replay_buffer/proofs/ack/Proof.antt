@@ -1,12 +1,14 @@
 -- `replay_buffer::ack` meets its contract. Assumes nothing.
 use mathlib.Core.Path.{_≡_, refl, ap, _∙_}
 use Prim.Native.Nat.{_-_}
+use native.Mathlib.Omega.{arith}
 use borrow.Author.Needs.{needs}
 use lib.IntN.{ℤ, pos}
 use Rattle.bidi_write.specs.Numbers.{toℕ}
 use Rattle.bidi_write.proofs.Offsets.{minus-is}
 use Rattle.replay_buffer.specs.View.{lent, wordsOf}
 use Rattle.replay_buffer.specs.Ack.{Stored, frontOf}
+use Rattle.replay_buffer.specs.declared.ReplayBuffer.{ReplayBuffer}
 use Rattle.replay_buffer.proofs.Rest.{keeps-advanced}
 use Rattle.replay_buffer.proofs.Acking.{front-stored, acks-too-long, acks-trimmed}
 use Rattle.replay_buffer.proofs.ack.Statement.{statement}
@@ -57,17 +59,27 @@ trim-requires c κs =
       s .pre .1,
     )
 
+-- what is left was stored
+sub-released : tie.Need-sub-released
+sub-released c =
+    let s = c .before .before .before .before .before .before .before .before .before .before .before .before .before .before .before in
+    let a = s .args in
+    let t = c .before .before .before .before in
+    let f = c .before .before .before .before .before .before .before .before .before .before .acknowledged .result in
+    let k = keeps-advanced (lent (a .size) (a .slots)) (a .b) f (toℕ (a .end .0)) (a .store .now) (a .table .now) (s .pre .0) (stored (c .before .before .before .before .before .before .before)) (a .table .now) refl in
+    omega (arith, t .trim .ensures .keeps .stored-le, ap (λ (r : ReplayBuffer). r .«unpersisted_bytes») (t .before .before .advance .ensures), k .stored-le)
+
 same-length-2 : tie.Need-same-length-2
 same-length-2 c = search needs
 
 returns-2 : tie.Need-returns-2
 returns-2 c =
-    let s = c .before .before .before .before .before .before .before .before .before .before .before .before .before in
+    let s = c .before .before .before .before .before .before .before .before .before .before .before .before .before .before .before in
     let a = s .args in
-    let t = c .before .before .trim in
-    acks-trimmed (lent (a .size) (a .slots)) (a .b) (toℕ (a .end .0)) (a .store .now) (a .table .now) (s .pre .0) (a .persisted .0) (c .before .before .before .before .before .before .before .before .acknowledged .result) (front (c .before .before .before .before .before .before .before .before)) (t .result) (t .last .1 .1 .1 .0) (stored (c .before .before .before .before .before))
-    (rw (c .before .before .before .before .advance .ensures) at (t .ensures))
+    let t = c .before .before .before .before .trim in
+    acks-trimmed (lent (a .size) (a .slots)) (a .b) (toℕ (a .end .0)) (a .store .now) (a .table .now) (s .pre .0) (a .persisted .0) (c .before .before .before .before .before .before .before .before .before .before .acknowledged .result) (front (c .before .before .before .before .before .before .before .before .before .before)) (t .result) (t .last .1 .1 .1 .0) (stored (c .before .before .before .before .before .before .before))
+    (rw (c .before .before .before .before .before .before .advance .ensures) at (t .ensures))
 
 pub ack-spec : {M : Type 1} → statement M
 ack-spec =
-    tie.close (tie.spec minus-requires acknowledged-requires same-length returns advance-requires trim-requires same-length-2 returns-2)
+    tie.close (tie.spec minus-requires acknowledged-requires same-length returns advance-requires trim-requires sub-released same-length-2 returns-2)

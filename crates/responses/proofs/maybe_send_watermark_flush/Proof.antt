@@ -20,7 +20,7 @@ returns : tie.Need-returns
 returns c =
     let a = c .before .before .before .before .before .before .before .args in
     rw (c .before .renew .ensures, c .before .before .set-mark .ensures .1)
-    (answers-flush (a .s) (a .completed) (rw (c .before .before .before .before .before .if1 .taken) at (c .before .before .before .before .before .before .needs-bare-flush .ensures)) (c .flush-request .result) (c .flush-request .ensures))
+    (answers-flush (a .s) (a .settled) (rw (c .before .before .before .before .before .if1 .taken) at (c .before .before .before .before .before .before .needs-bare-flush .ensures)) (c .flush-request .result) (c .flush-request .ensures))
 
 set-phase-requires : tie.Need-set-phase-requires
 set-phase-requires c κs = search needs
@@ -28,7 +28,7 @@ set-phase-requires c κs = search needs
 returns-2 : tie.Need-returns-2
 returns-2 c =
     let a = c .before .before .before .args in
-    rw (c .set-phase .ensures) (answers-nothing (a .s) (a .completed) (rw (c .before .if1 .left) at (c .before .before .needs-bare-flush .ensures)))
+    rw (c .set-phase .ensures) (answers-nothing (a .s) (a .settled) (rw (c .before .if1 .left) at (c .before .before .needs-bare-flush .ensures)))
 
 pub maybe-send-watermark-flush-spec : {M : Type 1} → statement M
 maybe-send-watermark-flush-spec =

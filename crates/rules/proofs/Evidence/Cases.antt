@@ -16,7 +16,7 @@ use Rattle.rules.specs.Bench.{sized}
 use Rattle.rules.proofs.Evidence.Computed.{computed}
 use Rattle.rules.proofs.Evidence.Table.{Row, row, Met, after, to, at, redirection}
 
-abbrev finalisedAt : ℕ → Response
+abbrev pub finalisedAt : ℕ → Response
 finalisedAt n = record { writeStatus = some (resource (pos n) (record { number = pos 1 }) true); writeHandle = none }
 
 abbrev unsized : Response
@@ -30,22 +30,22 @@ abbrev spec : Session → AppendObjectSpec
 spec s = s .worker .connector .spec
 
 -- four bytes, which are cut, under the watermark
-abbrev four : Call
+abbrev pub four : Call
 four = append (1 ∷ 2 ∷ 3 ∷ 4 ∷ []) 4
 
 abbrev pub table : List Row
 table =
     -- "Satisfying waiters behind an unsatisfied front one." The flush in front wants a response that is not finalised.
-    row 1 (after (at 0) (flush 4 ∷ finalise 4 ∷ []) (to (response (finalisedAt 0)))) (some (ends alreadyFinalized 0 2))
+    row 1 (after (at 0) (flush 4 ∷ finalise 4 ∷ []) (to (response (finalisedAt 0)))) (some (ends alreadyFinalized 0 0 2))
     -- "Leaving the old sum on a trimmed chunk."
     ∷ row 2 (after (at 4) (append (1 ∷ 2 ∷ []) 4 ∷ flush 4 ∷ response (sized (pos 5)) ∷ []) (λ s. map ReplayChunk.crc32c (chunks s))) (some (crcOf (2 ∷ []) ∷ []))
     -- "Keeping the mark after a response without size." It is cleared, so that the watermark holds again.
-    ∷ row 3 (after (at 0) (four ∷ []) (to (response unsized))) (some (completes 0 (some (flushRequest (pos 4)))))
+    ∷ row 3 (after (at 0) (four ∷ []) (to (response unsized))) (some (completes 0 0 (some (flushRequest (pos 4)))))
     -- "Updating P on a regress."
     ∷ row 4 (after (at 5) (response (sized (pos 4)) ∷ []) (λ s. s .worker .persistedSize)) (some (pos 5))
     -- "a finalise wants the size and finalised"
-    ∷ row 5 (after (at 0) (finalise 4 ∷ []) (to (response (sized (pos 0))))) (some (completes 0 none))
-    ∷ row 6 (after (at 0) (finalise 4 ∷ []) (to (response (finalisedAt 0)))) (some (completes 1 none))
+    ∷ row 5 (after (at 0) (finalise 4 ∷ []) (to (response (sized (pos 0))))) (some (completes 0 0 none))
+    ∷ row 6 (after (at 0) (finalise 4 ∷ []) (to (response (finalisedAt 0)))) (some (completes 1 0 none))
     -- "A size above the pushed end is accepted as the crate does."
     ∷ row 7 (after (at 0) (four ∷ response (sized (pos 9)) ∷ []) stored) (some 0)
     -- "It is a redirect only where the code is Aborted too. Another break adds 1 to the attempt number"
@@ -55,12 +55,12 @@ table =
     ∷ row 10 (after (at 0) (break unavailable ∷ []) (λ s. (spec s) .writeHandle)) (some (some (7 ∷ [])))
     ∷ row 11 (after (at 0) (break unavailable ∷ []) (λ s. (spec s) .generation .number)) (some (pos 3))
     -- "4 host gives up", on a redirect too
-    ∷ row 12 (after (at 0) (break redirection ∷ []) (to (judge 4))) (some (ends givenUp 0 0))
+    ∷ row 12 (after (at 0) (break redirection ∷ []) (to (judge 4))) (some (ends givenUp 0 0 0))
     -- "Finalise sent and no waiter: *finished*."
-    ∷ row 13 (after (at 0) (finalise 4 ∷ response (finalisedAt 0) ∷ []) (to (break otherError))) (some (ends finished 0 0))
+    ∷ row 13 (after (at 0) (finalise 4 ∷ response (finalisedAt 0) ∷ []) (to (break otherError))) (some (ends finished 0 0 0))
     -- "Closing: an end of stream finishes, dropping waiters; another break ends with a stream error unless finished."
-    ∷ row 14 (after (at 0) (flush 4 ∷ close ∷ []) (to (break endOfStream))) (some (ends finished 0 1))
-    ∷ row 15 (after (at 0) (flush 4 ∷ close ∷ []) (to (break otherError))) (some (ends streamError 0 1))
+    ∷ row 14 (after (at 0) (flush 4 ∷ close ∷ []) (to (break endOfStream))) (some (ends finished 0 0 1))
+    ∷ row 15 (after (at 0) (flush 4 ∷ close ∷ []) (to (break otherError))) (some (ends streamError 0 0 1))
     -- "A send reported failed, allowed directly after an accepted call that sent (refused calls and empty appends between don't count), else 6"
     ∷ row 16 (after (at 0) (four ∷ append [] 4 ∷ judge 1 ∷ []) (to sendFailed)) (some ok)
     ∷ row 17 (after (at 0) (four ∷ sendFailed ∷ []) (to sendFailed)) (some (refused 6))

@@ -28,9 +28,9 @@ table =
     -- "P2 append 0: 0.", in any session
     ∷ row 2 (step (append [] 0)) (λ s. answers (took 0 none) s)
     -- "P3 size equal to P: accepted."
-    ∷ row 3 (after (at 5) [] (to (response (sized (pos 5))))) (some (completes 0 none))
+    ∷ row 3 (after (at 5) [] (to (response (sized (pos 5))))) (some (completes 0 0 none))
     -- "P4 one less: regressed."
-    ∷ row 4 (after (at 5) [] (to (response (sized (pos 4))))) (some (ends regressed 0 0))
+    ∷ row 4 (after (at 5) [] (to (response (sized (pos 4))))) (some (ends regressed 0 0 0))
     -- "P5 chunk 4 to 6, report 5: 1 byte left."
     ∷ row 5 (after (at 4) (append (1 ∷ 2 ∷ []) 4 ∷ flush 4 ∷ response (sized (pos 5)) ∷ []) stored) (some 1)
     -- "P6 capacity 8 asked, C 4: 9."
@@ -38,9 +38,9 @@ table =
     -- "P7 third redirect, verdict 3: continue."
     ∷ row 7 (after (at 0) two (to (failedAttempt redirection 3))) (some ok)
     -- "P8 fourth: exhausted;
-    ∷ row 8 (after (at 0) three (to (failedAttempt redirection 3))) (some (ends exhausted 0 0))
+    ∷ row 8 (after (at 0) three (to (failedAttempt redirection 3))) (some (ends exhausted 0 0 0))
     -- with verdict 2 permanent."
-    ∷ row 8 (after (at 0) three (to (failedAttempt redirection 2))) (some (ends permanent 0 0))
+    ∷ row 8 (after (at 0) three (to (failedAttempt redirection 2))) (some (ends permanent 0 0 0))
     -- "P9 empty payload, P = −1: one empty chunk stored."
     ∷ row 9 (after (opens (opening 4 9 (negsuc 0) (some []))) [] (λ s. map ReplayChunk.bytes (chunks s))) (some ([] ∷ []))
     -- "P10 CRC32C of nothing is 0."

@@ -113,6 +113,11 @@ pub second-breaks : Broken (uploaded (first ++ second))
 unfolding computed
 second-breaks = (refl, refl)
 
+-- cde, of the bytes taken, may be dropped
+pub first-releases : (uploaded first) .notes .released ≡ 3
+unfolding computed
+first-releases = refl
+
 -- the flush is completed by the handshake that follows the fourth connection
 pub handshake-completes : ((uploaded (first ++ second ++ third ++ fourth)) .notes .completed ≡ 0)
     × ((uploaded (first ++ second ++ third ++ fourth ++ goesOn)) .notes .completed ≡ 1)
@@ -124,11 +129,12 @@ pub record Uploaded (w : World) : Type 0 where
   pub all : w .notes .all ≡ abcdefgh
   pub finalised : w .server .stored .finalised ≡ true
   pub completed : w .notes .completed ≡ 2
+  pub released : w .notes .released ≡ 6
   pub phase : w .session .phase ≡ ended finished
 
 pub fifth-finishes : Uploaded (uploaded (first ++ second ++ third ++ fourth ++ fifth))
 unfolding computed
-fifth-finishes = record { object = refl; all = refl; finalised = refl; completed = refl; phase = refl }
+fifth-finishes = record { object = refl; all = refl; finalised = refl; completed = refl; released = refl; phase = refl }
 
 -- ---- (ii) redirects, from the payload "abc" of which the server has persisted a
 

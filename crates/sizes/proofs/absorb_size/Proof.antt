@@ -30,14 +30,14 @@ same-length c = search needs
 
 returns : tie.Need-returns
 returns c =
-    let s = c .before .before .before .before .before .before .before .before .before .before .before .before .before .before .before in
+    let s = c .before .before .before .before .before .before .before .before .before .before .before .before .before .before .before .before in
     let a = s .args in
-    let k = c .before .before .before .before .before .before .before .before .satisfied in
-    let q = c .before .before .before .before .before .before .before .complete in
-    let ack = c .before .before .before .before .ack in
+    let k = c .before .before .before .before .before .before .before .before .before .satisfied in
+    let q = c .before .before .before .before .before .before .before .before .complete in
+    let ack = c .before .before .before .before .before .ack in
     rw (c .renew .ensures, c .before .absorb .ensures)
     (absorbs-size (a .n) (a .finalized) (a .s) (a .store .now) (a .table .now) (s .pre) (ack .result) (ack .last .1 .1 .1 .0)
-    (rw (c .before .before .before .before .before .before .ring-size .ensures (s .pre .capacity-top) (s .pre .limit-top)) at (ack .ensures)) (ack .kept .1 .1 .1 .0) (k .result) (k .ensures .0) (q .result) (q .ensures .0) (q .ensures .1))
+    (rw (c .before .before .before .before .before .before .before .ring-size .ensures (s .pre .capacity-top) (s .pre .limit-top)) at (ack .ensures)) (ack .kept .1 .1 .1 .0) (k .result) (k .ensures .0) (q .result) (q .ensures .0) (q .ensures .1))
 
 pub absorb-size-spec : {M : Type 1} → statement M
 absorb-size-spec =

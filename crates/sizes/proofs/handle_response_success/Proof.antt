@@ -18,6 +18,9 @@ persisted-size-requires c κs = search needs
 enum-told : tie.Need-enum-told
 enum-told c = search needs
 
+nothing-requires : tie.Need-nothing-requires
+nothing-requires c κs = search needs
+
 enum-known-size : tie.Need-enum-known-size
 enum-known-size c = search needs
 
@@ -26,10 +29,10 @@ take-size-requires c κs = search needs
 
 returns : tie.Need-returns
 returns c =
-    let a = c .before .before .before .before .before .before .args in
-    let p = c .before .before .persisted-size in
+    let a = c .before .before .before .before .before .before .before .args in
+    let p = c .before .before .before .persisted-size in
     let e : M.sizeOf (statusOf (a .status)) ≡ none = let q : p .result ≡ size.Absent = cc in sym (p .ensures) ∙ ap sizeOf q in
-    rw e (takes-none _ (a .s) (a .store .now) (a .table .now))
+    rw (e, c .nothing .ensures) (takes-none _ (a .s) (a .store .now) (a .table .now))
 
 same-length : tie.Need-same-length
 same-length c = search needs
@@ -47,6 +50,7 @@ handle-response-success-spec =
     is-finalized-requires
     persisted-size-requires
     enum-told
+    nothing-requires
     enum-known-size
     take-size-requires
     returns

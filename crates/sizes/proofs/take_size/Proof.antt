@@ -8,10 +8,13 @@ use Rattle.sizes.proofs.take_size.Tie as tie
 below-requires : tie.Need-below-requires
 below-requires c κs = search needs
 
+nothing-requires : tie.Need-nothing-requires
+nothing-requires c κs = search needs
+
 returns : tie.Need-returns
 returns c =
-    let a = c .before .before .before .before .before .before .args in
-    takes-regressed (a .finalized) (a .s) (a .store .now) (a .table .now) (a .n .0) (sym (c .before .below .ensures) ∙ c .if1 .taken)
+    let a = c .before .before .before .before .before .before .before .args in
+    rw (c .nothing .ensures) (takes-regressed (a .finalized) (a .s) (a .store .now) (a .table .now) (a .n .0) (sym (c .before .before .below .ensures) ∙ c .before .if1 .taken))
 
 absorb-size-requires : tie.Need-absorb-size-requires
 absorb-size-requires c κs = search needs
@@ -32,4 +35,4 @@ returns-2 c =
 pub take-size-spec : {M : Type 1} → statement M
 take-size-spec =
     tie.close
-    (tie.spec below-requires returns absorb-size-requires way-on-requires same-length returns-2)
+    (tie.spec below-requires nothing-requires returns absorb-size-requires way-on-requires same-length returns-2)

@@ -11,19 +11,19 @@ returns : tie.Need-returns
 returns c =
     let a = c .before .before .before .before .before .args in
     let d = c .before .before .is-complete in
-    goes-to-end (a .s) (a .completed) (d .result) (d .ensures) (a .finalized) (rw (c .before .if1 .taken, c .if2 .taken))
+    goes-to-end (a .s) (a .settled) (d .result) (d .ensures) (a .finalized) (rw (c .before .if1 .taken, c .if2 .taken))
 
 returns-2 : tie.Need-returns-2
 returns-2 c =
     let a = c .before .before .before .before .before .args in
     let d = c .before .before .is-complete in
-    goes-on (a .s) (a .completed) (d .result) (d .ensures) (a .finalized) (rw (c .before .if1 .taken, c .if2 .left))
+    goes-on (a .s) (a .settled) (d .result) (d .ensures) (a .finalized) (rw (c .before .if1 .taken, c .if2 .left))
 
 returns-3 : tie.Need-returns-3
 returns-3 c =
     let a = c .before .before .before .before .args in
     let d = c .before .is-complete in
-    goes-on (a .s) (a .completed) (d .result) (d .ensures) (a .finalized) (rw (c .if1 .left))
+    goes-on (a .s) (a .settled) (d .result) (d .ensures) (a .finalized) (rw (c .if1 .left))
 
 pub way-on-spec : {M : Type 1} → statement M
 way-on-spec = tie.close (tie.spec is-complete-requires returns returns-2 returns-3)

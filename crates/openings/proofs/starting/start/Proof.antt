@@ -61,12 +61,13 @@ same-length-2 c = search needs
 
 returns : tie.Need-returns
 returns c =
-    let stored = c .before .before .before .before .before .before .before .before in
+    let summed = c .before .before in
+    let stored = summed .before .before .before .before .before .before .before in
     let sized = stored .before .before .before .before .before .before in
     let start = sized .before .before .before .before .before .before .before .before .before .before .before in
     starts (start .pre) (omega (arith, start .good .1 .1 .0 .1)) (sized .before .asked-capacity .ensures) (sized .capacity-for .ensures)
-    (stored .before .before .before .before .before .opening-size .ensures) (stored .before .before .before .connect .ensures) (stored .store-payload .ensures) (c .before .before .before .payload-length .ensures) (c .before .before .write-offset .ensures)
-    (c .before .running-sum .ensures (start .args .payload .now) (stored .before .before .before .before .payload-sum .ensures)) (c .fresh .ensures)
+    (stored .before .before .before .before .before .opening-size .ensures) (stored .before .before .before .connect .ensures) (stored .store-payload .ensures) (summed .before .before .payload-length .ensures) (summed .before .write-offset .ensures)
+    (summed .running-sum .ensures (start .args .payload .now) (stored .before .before .before .before .payload-sum .ensures)) (c .fresh .ensures)
 
 pub start-spec : {M : Type 1} → statement M
 start-spec =

@@ -12,6 +12,9 @@ line-requires c κs = search needs
 line-requires-2 : tie.Need-line-requires-2
 line-requires-2 c κs = search needs
 
+released-requires : tie.Need-released-requires
+released-requires c κs = search needs
+
 handed-requires : tie.Need-handed-requires
 handed-requires c κs = search needs
 
@@ -34,6 +37,7 @@ answer-spec =
     mark-requires
     line-requires
     line-requires-2
+    released-requires
     handed-requires
     maybe-fields-requires
     ended-requires

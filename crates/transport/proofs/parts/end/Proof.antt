@@ -16,9 +16,10 @@ renew-requires c κs = search needs
 
 returns : tie.Need-returns
 returns c =
+    let a = c .before .before .before .before .before .args in
     let new = c .before .before .new in
     rw (c .renew .ensures, c .before .set-pending .ensures .1)
-    (ends-as (c .before .before .before .before .before .args .cause) (c .before .before .before .before .before .args .completed) (c .before .before .before .before .before .args .s) (new .result) (rw (new .ensures) none-waits) (rw (new .ensures) none-counted))
+    (ends-as (a .cause) (a .completed) (a .released) (a .s) (new .result) (rw (new .ensures) none-waits) (rw (new .ensures) none-counted))
 
 pub end-spec : {M : Type 1} → statement M
 end-spec = tie.close (tie.spec new-requires set-pending-requires renew-requires returns)
