@@ -1,5 +1,5 @@
-"""Document 01's boundary cases, and those of written requests and of redirect details, as scripts: for each its name, its calls, and what its opening has that
-the others have not.
+"""Document 01's boundary cases, and those of written requests, of redirect details and of what is released, as scripts: for each its name, its calls, and what
+its opening has that the others have not.
 
 A call is the mark of its record (docs/TRACE.md) and what it brings, as in docs/DIFFERENCES.md. AP has the bytes, the letters of their offsets from a to z and
 again. RS and HS have a size or none, and `resource` or `finalised` where a resource holds it, or `handle` and the length of one. BR, and FA behind its verdict,
@@ -463,5 +463,29 @@ WRITTEN = [
     ("written before the opening", Script([Write(), OPENING, Write(), Plain(b"FL"), Write()])),
 ]
 
+# How two chunks are met: by a response, by one while closing, by a handshake.
+MET = {"response": "AP abcd, AP efgh, RS", "response in closing": "AP abcd, AP efgh, CL, RS", "handshake": "AP abcd, AP efgh, BR, VE 1, HS"}
+
+# How much was released: of a payload, of two chunks, and by what ends the session. Bytes held are not stored, and a refused call releases nothing.
+RELEASED = [
+    *(opens(f"released, payload 4, P {p}", payload=b"abcd", response=Response(p)) for p in (LOW, -1, 0, 1, 3, 4, 5, HIGH)),
+    opens("released, payload 4, Write form, P 3", payload=b"abcd", response=Response(3), last=3, append=False),
+    opens("released, no payload, P 3", response=Response(3)),
+    case("released, payload in parts", "RS 3, BR, VE 1, HS 4, NX", payload=b"abcd", response=Response(2)),
+    *(case(f"released, {how} at {n}", f"{calls} {n}") for how, calls in MET.items() for n in (0, 3, 4, 5, 8)),
+    *(case(f"released, {how} without size", calls) for how, calls in MET.items()),
+    *(case(f"released, {how} at {n}, ends", f"{calls} {n}") for how, calls in MET.items() for n in ("-1", "3 finalised", "8 finalised")),
+    case("released, sizes one after the other", "AP abcd, AP efgh, RS 0, RS 1, RS 3, RS 4, RS 4, RS 6, RS 8, RS 8"),
+    case("released below 0", "AP abcd, RS -2, RS -1, BR, VE 1, HS -1, NX, NX, NX, RS 0, RS 1", response=Response(-2)),
+    case("released with waiters", "AP abcd, FL, AP ef, FL, FL, RS 3, RS 4, BR, VE 1, HS 6, NX"),
+    case("released with a finalise", "AP abcd, FI, RS 3, RS 4 finalised, BR"),
+    case("released with a finalise, size short", "AP abcd, FI, RS 3 finalised"),
+    case("released by a finalised handshake", "AP abcd, FI, BR, VE 1, HS 4 finalised, NX"),
+    case("released beside bytes held", "AP abcd, AP ef, RS 3, RS 4, FL, RS 5, AP g, BR, VE 1, HS 6, NX"),
+    case("released by none that is refused", "AP abcd, HS 4, RS handle 1025, BR, RS 4, HS 4, VE 1, RS 4, HS handle 1025, HS 4, HS 4, RS 4, NX"),
+    case("released where sends fail", "AP abcd, SF, AP efgh, RS 3, SF, RS 8, BR, VE 1, HS 8, NX"),
+    case("released, the failed send of an acknowledgement", "AP abcd, AP efgh, RS 3, SF, BR, VE 1, HS 5, NX, SF, RS 8"),
+]
+
 CASES = OPENINGS + LENGTHS + PHASES + ENDED + CLOSED + ROOM + SIZES + FINALS + PAYLOADS + RINGS + ATTEMPTS + REDIRECTS + FAILURES + WRITTEN
-CASES += READINGS + MALFORMED + DETAILED
+CASES += READINGS + MALFORMED + DETAILED + RELEASED

@@ -1,5 +1,6 @@
 """What a script reaches of document 01's rules, read from its calls and the oracle's lines. FEATURES is the whole list."""
 
+import itertools
 import re
 
 from . import details
@@ -41,8 +42,8 @@ ENDS = [
 ]  # fmt: skip
 OTHERS = [
     "own flush on a chunk of AP", "own flush on a chunk of FL", "own flush bare by RS", "own flush bare by NX", "no own flush while marked",
-    "no own flush while waiting", "mark cleared by RS without size", "mark cleared by RS with size", "mark cleared by BR", "RS trims", "HS trims",
-    "RS frees several chunks", "HS frees several chunks", "size at P", "size above the pushed end", "P at 2^63-1", "P at -2^63",
+    "no own flush while waiting", "mark cleared by RS without size", "mark cleared by RS with size", "mark cleared by BR", "size at P",
+    "size above the pushed end", "P at 2^63-1", "P at -2^63",
     "waiters completed by RS: 1", "waiters completed by RS: several", "waiters completed by HS: 1", "waiters completed by HS: several",
     "front waiter blocks", "finalise completed by RS", "finalise completed by HS", "finish with sum", "finish without sum", "16 waiters",
     "redirect 1", "redirect 2", "redirect 3", "redirect 4", "redirect turns verdict 2", "redirect turns verdict 3", "fourth redirect, verdict 2",
@@ -67,6 +68,13 @@ DETAILS = [
     "E15: token too long too", "E15 without Aborted", "E4: token", "E4: handle", "E4: handle's bytes kept", "E4 without Aborted",
     *(f"detail: {trait}" for trait in details.TRAITS),
 ]  # fmt: skip
+SHARES = ["nothing", "part of a chunk", "a chunk", "chunks and part of one", "several chunks"]
+RELEASES = [
+    *(f"OP releases {share}" for share in SHARES[:3]), *(f"{mark} releases {share}" for mark in ("RS", "HS") for share in SHARES),
+    *(f"{mark} releases nothing {why}" for mark in ("RS", "HS") for why in ("without size", "at a negative size", "and ends")),
+    *(f"{mark} releases and {what}" for mark in ("RS", "HS") for what in ("completes", "ends")), "RS releases and sends", "RS releases in Closing",
+    "RS releases and ends in Closing",
+]  # fmt: skip
 FEATURES = (
     OPENING
     + [f"{mark} E{n}" for mark, numbers in REFUSED.items() for n in numbers]
@@ -74,6 +82,7 @@ FEATURES = (
     + [f"end: {end}" for end in ENDS]
     + OTHERS
     + DETAILS
+    + RELEASES
 )
 
 
@@ -105,7 +114,7 @@ def reached(script, output):
     if answer != "OP ok":
         return unopened(opening, answer)
     before = View(lines[0][-1])
-    found = opened(opening, before)
+    found = opened(opening, before, released(lines[0]))
     sent = between = None
     failed = False
     last, request = "OP", None
@@ -137,6 +146,8 @@ def reached(script, output):
         if mark == "HS":
             failed = False
         found |= accepted(mark, call, answer, before, after)
+        if mark in ("RS", "HS"):
+            found |= releases(mark, call, answer, before, after, released(text))
         sent, between = sender(mark, answer, before), None
         last, request = "the end" if answer == "end" else mark, next((line[5:] for line in text if line.startswith(b"  rq ")), None)
         before = after
@@ -155,7 +166,8 @@ def unopened(o, answer):
     return {f"{answer}: {why[answer]}" if answer in why else answer}
 
 
-def opened(o, v):
+def opened(o, v, n):
+    """`n`: the bytes that it released"""
     p, payload, kept = v.p, o.payload, bool(v.chunks)
     answer = o.response
     rules = {
@@ -172,6 +184,7 @@ def opened(o, v):
         "payload, P inside": bool(payload) and 0 < p < len(payload),
         "payload, P at its end": bool(payload) and p == len(payload),
         "payload, P above its end": bool(payload) and p > len(payload),
+        f"OP releases {share(n, [len(payload or b'')])}": bool(payload),
         "empty payload kept": payload == b"" and kept,
         "empty payload gone": payload == b"" and not kept,
         "last size above P": v.last > p,
@@ -266,13 +279,10 @@ def replayed(answer, before):
 
 def responded(mark, r, answer, before, after):
     gone = len(before.waiters) - len(after.waiters) if answer != "end" else 0
-    trimmed = bool(after.chunks) and after.chunks[0] not in before.chunks
     kind = "without status" if r.size is None else "finalised" if r.finalised else "resource" if r.generation is not None else "size"
     rules = {
         f"{mark} {kind}": True,
         f"{mark} handle": r.handle is not None,
-        f"{mark} trims": trimmed,
-        f"{mark} frees several chunks": len(before.chunks) - len(after.chunks) > 1,
         f"mark cleared by {mark} {'without' if r.size is None else 'with'} size": before.mark and not after.mark,
         "size at P": r.size == before.p,
         "size above the pushed end": r.size is not None and r.size > before.offset and answer != "end",
@@ -285,6 +295,42 @@ def responded(mark, r, answer, before, after):
         "last size kept by HS without size": mark == "HS" and r.size is None,
     }
     return {name for name, holds in rules.items() if holds}
+
+
+def released(lines):
+    """the number in the lines of a call that acknowledges"""
+    return next(int(line[5:]) for line in lines if line.startswith(b"  rl "))
+
+
+def releases(mark, r, answer, before, after, n):
+    """of an accepted response or handshake that finds bytes stored; `n`: those that it released"""
+    if not before.stored:
+        return set()
+    ends, closing = answer == "end", before.phase == "Closing"
+    rules = {
+        f"{mark} releases {share(n, [len(chunk.split(':')[1]) // 2 for chunk in before.chunks])}": True,
+        f"{mark} releases nothing without size": n == 0 and r.size is None,
+        f"{mark} releases nothing at a negative size": n == 0 and r.size is not None and r.size < 0,
+        f"{mark} releases nothing and ends": n == 0 and ends,
+        f"{mark} releases and ends": n > 0 and ends,
+        f"{mark} releases and completes": n > 0 and not ends and len(after.waiters) < len(before.waiters),
+        f"{mark} releases and sends": n > 0 and ":" in answer,
+        f"{mark} releases in Closing": n > 0 and closing and not ends,
+        f"{mark} releases and ends in Closing": n > 0 and closing and ends,
+    }
+    return {name for name, holds in rules.items() if holds}
+
+
+def share(n, lengths):
+    """what so many bytes are of the front of chunks of these lengths"""
+    ends = list(itertools.accumulate(lengths))
+    if n == 0:
+        return "nothing"
+    if n < ends[0]:
+        return "part of a chunk"
+    if n not in ends:
+        return "chunks and part of one"
+    return "a chunk" if n == ends[0] else "several chunks"
 
 
 def malformed(b):

@@ -56,6 +56,8 @@ struct Runner<'a> {
     session: Option<Session>,
     facts: Facts,
     waiters_made: u64,
+    /// Stored bytes before the call under way; before an opening those of its payload.
+    stored: usize,
     /// The request that the last accepted call handed out.
     handed_out: Option<BidiWriteObjectRequest>,
     /// A verdict is awaited. The crate has asked for it and heard it already; until then its state is shown as it was when it asked.
@@ -77,6 +79,7 @@ impl<'a> Runner<'a> {
             session: None,
             facts: Facts::default(),
             waiters_made: 0,
+            stored: 0,
             handed_out: None,
             asked: None,
             unreported: false,
@@ -110,26 +113,32 @@ impl<'a> Runner<'a> {
         }
     }
 
-    /// The answer of an accepted call, its request, and the state after it.
+    /// The answer of an accepted call, what it released, its request, and the state after it.
     fn answer(&mut self, answer: &str, request: Option<&BidiWriteObjectRequest>) {
         self.handed_out = request.cloned();
-        self.answer_with(answer, request.map(lines::request));
+        self.answer_with(answer, [self.released(), request.map(lines::request)]);
     }
 
     /// The call ended the session, before which so many waited. The worker's last probe was before it failed those that were left.
     fn ends(&mut self, waiting: usize) {
         let failed = self::waiting();
         self.handed_out = None;
-        self.answer_with("end", Some(format!("  en completed={} failed={failed}", waiting - failed)));
+        self.answer_with("end", [self.released(), Some(format!("  en completed={} failed={failed}", waiting - failed))]);
     }
 
-    fn answer_with(&mut self, answer: &str, more: Option<String>) {
+    /// The line of a call that acknowledges: the crate's own count before it less that after it. The last probe of a worker that ended was after it too.
+    fn released(&self) -> Option<String> {
+        let acknowledges = matches!(self.script[self.at], Call::Open(_) | Call::Response(_) | Call::Handshake(_));
+        acknowledges.then(|| format!("  rl {}", self.stored - stored()))
+    }
+
+    fn answer_with(&mut self, answer: &str, more: [Option<String>; 2]) {
         let mark = self.script[self.at].mark();
         self.line(&format!("{mark} {answer}"));
         if self.format == Format::Bench || !self.prints() {
             return;
         }
-        if let Some(more) = more {
+        for more in more.into_iter().flatten() {
             self.line(&more);
         }
         let mut views = self.views();
@@ -183,6 +192,7 @@ impl<'a> Runner<'a> {
         if self.session.is_none() {
             return self.refuse_opening(5);
         }
+        self.stored = o.payload.as_ref().map_or(0, Vec::len);
         self.facts = Facts { chunk: o.chunk as usize, slots: o.slots, out: o.out, ..Facts::default() };
         self.answer("ok", None);
     }
@@ -197,7 +207,7 @@ impl<'a> Runner<'a> {
         let phase = session.phase;
         let view = session.transport_view().clone();
         if let Some(n) = refusals::later(phase, &view, &self.facts, call) {
-            self.answer_with(&format!("E{n}"), None);
+            self.answer_with(&format!("E{n}"), [None, None]);
             return false;
         }
         if self.unreported && !matches!(call, Call::SendFailed) {
@@ -282,6 +292,7 @@ impl<'a> Runner<'a> {
             return;
         }
         self.facts.sender = None;
+        self.stored = stored();
         match call {
             Call::Close => self.close(),
             Call::Response(r) => self.respond(r),
@@ -413,4 +424,9 @@ impl<'a> Runner<'a> {
 /// How many wait.
 fn waiting() -> usize {
     probe::worker(|w| w.waiters.len())
+}
+
+/// How many bytes the crate counts as unpersisted.
+fn stored() -> usize {
+    probe::worker(|w| w.stored)
 }
