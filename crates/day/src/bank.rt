@@ -18,12 +18,17 @@ use transport::Answer;
 // The tasks of a day are numbered from 1: its events, then finalise, then close.
 pub const EVENTS: u64 = 700;
 
-// What can go wrong, besides a refusal, which has its own number: the session ended too early, the desk waits with nothing on its way, too many calls.
+// What can go wrong, besides a refusal, which has its own number: the session ended too early, the desk waits with nothing on its way, too many calls, the
+// copies leave no room for an event, the bytes released are not those appended.
 pub const ENDED_EARLY: u64 = 101;
 
 pub const STUCK: u64 = 102;
 
 pub const TOO_MANY_CALLS: u64 = 103;
+
+pub const NO_ROOM: u64 = 104;
+
+pub const UNSETTLED: u64 = 105;
 
 // The verdict of a host that never gives up.
 pub const GO_ON: u8 = 1;
@@ -81,6 +86,14 @@ impl Bank {
         self
     }
 
+    // What is not yet taken of the event.
+    pub fn left(self) -> usize {
+        if self.length < self.taken {
+            return 0;
+        }
+        self.length - self.taken
+    }
+
     // Those that are done.
     pub fn events(self) -> u64 {
         if EVENTS < self.task {
@@ -100,6 +113,14 @@ impl Bank {
             return false;
         }
         self.waiter <= self.completed
+    }
+
+    // The bytes of events whose desk has its answer.
+    pub fn answered(self) -> u64 {
+        if self.is_answered() {
+            return self.bytes;
+        }
+        minus(self.bytes, self.taken as u64)
     }
 
     // Whether there is no call to make any more.

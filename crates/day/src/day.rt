@@ -1,5 +1,6 @@
 // A day: open, and then call after call until the session has ended. Here alone is the session.
 ghost use Prim.Native.Nat.{_≤_};
+use crate::copies;
 use crate::message;
 use crate::server::RESOURCE;
 use crate::server::Said;
@@ -21,30 +22,33 @@ const CAPACITY: usize = 16384;
 // More calls than a day can need.
 const MOST_CALLS: u64 = 10000000;
 
-// The store is the ring's size, capacity + 2 * limit - 2. An event has at most 9,000 bytes. A message has at most 39 bytes more than its data.
+// The store is the ring's size, capacity + 2 * limit - 2. A message has at most 39 bytes more than its data. An event's copy may
+// lie in two pieces; an append is lent it in one.
 pub fn run(seed: u64, breaks: u64) -> World {
     let mut store = [0u8; 24574];
     let mut table = [0u64; 64];
     let mut out = [0u8; 4096];
     let mut message = [0u8; 4135];
+    let mut copies = [0u8; 32768];
     let mut event = [0u8; 9000];
     let opened = open(&mut store, &mut table);
     let mut s = opened.session;
     let answer = opened.answer;
-    let mut w = world::new(seed, breaks, answer, &mut event);
+    let mut w = world::new(seed, breaks, answer, opened.released, &mut copies);
     let mut calls = MOST_CALLS;
     while 0 < calls {
-        let next = world::next(w, &mut event);
+        let next = world::next(w, &mut copies);
         let call = next.call;
         w = next.world;
-        let data = rest(&event, w.bank.taken, w.bank.length);
+        let n = copies::read(&copies, w.bank.bytes, w.bank.left(), &mut event);
+        let data = &event[..n];
         let whole = w.link.redirects % 2 == 0;
         let detail = message::either(whole, &message::DETAIL, &message::DETAIL_IN_PARTS);
         let bytes = message::beside(call, data, &message::HANDLE, detail);
         let r = steps::step(s, call, &mut store, &mut table, &mut out, bytes);
         s = r.session;
         let answer = r.answer;
-        w = world::heard(w, answer, &out, &mut message);
+        w = world::heard(w, answer, &out, &mut message, &mut copies);
         calls = calls_left(w, calls - 1);
     }
     w
@@ -91,14 +95,4 @@ fn open(store: &mut [u8], table: &mut [u64]) -> Opened {
         &message::HANDLE,
         none,
     )
-}
-
-// What is not yet taken of an event.
-fn rest(event: &[u8], from: usize, to: usize) -> &[u8] {
-    if from <= to {
-        if to <= event.len() {
-            return &event[from..to];
-        }
-    }
-    &event[..0]
 }

@@ -1,19 +1,10 @@
-// The journal: a byte for each offset, so that nobody has to keep it.
+// The journal: a byte for each offset, so that the server need not keep it.
 use std::num::wrapping_add_u64;
 
 // The byte at an offset, in the journal of this key.
-fn byte_at(key: u64, at: u64) -> u8 {
+pub fn byte_at(key: u64, at: u64) -> u8 {
     let x = wrapping_add_u64(key, at) % 4294967296;
     (x * 2654435769 / 16777216 % 256) as u8
-}
-
-// The bytes from an offset on.
-pub fn fill(event: &mut [u8], key: u64, at: u64) {
-    let mut i = 0;
-    while i < event.len() {
-        event[i] = byte_at(key, wrapping_add_u64(at, i as u64));
-        i += 1;
-    }
 }
 
 // How many of the bytes from an offset on are not the journal's.

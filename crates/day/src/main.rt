@@ -2,6 +2,7 @@
 // Arguments: seed, days, breaks a day; 1, 1 and 9 where they are left out.
 mod bank;
 mod chance;
+mod copies;
 mod day;
 mod journal;
 mod link;
@@ -116,6 +117,6 @@ fn one_day(seed: u64, d: u64, breaks: u64, t: Tally) -> Tally {
     print::figure(b"day", d);
     let key = wrapping_add_u64(chance::draw(seed, 867, 4294967296), d);
     let w = day::run(key, breaks);
-    print::trouble(w.bank.verdict());
+    print::trouble(w.verdict());
     t.with(w)
 }

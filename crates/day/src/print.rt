@@ -1,8 +1,10 @@
 // What a person reads.
 use crate::bank::ENDED_EARLY;
 use crate::bank::EVENTS;
+use crate::bank::NO_ROOM;
 use crate::bank::STUCK;
 use crate::bank::TOO_MANY_CALLS;
+use crate::bank::UNSETTLED;
 use crate::link::ABORTED;
 use crate::link::ANSWER;
 use crate::link::CHUNK;
@@ -119,6 +121,8 @@ fn work(t: Tally) {
     figure(b"chunks", t.chunks);
     figure(b"flushes of the session's own", t.own_flushes);
     figure(b"waiters completed", t.waiters);
+    figure(b"events dropped by the bank", t.dropped);
+    figure(b"dropped before the desk had its answer", t.unanswered);
 }
 
 fn link(t: Tally) {
@@ -139,6 +143,8 @@ fn faults(t: Tally) {
         b"connections cut by the server that had lost nothing",
         t.cut_off,
     );
+    figure(b"events dropped before they were persisted", t.unpersisted);
+    figure(b"bytes sent that the bank had dropped", t.lacking);
 }
 
 pub fn figure(name: &[u8], n: u64) {
@@ -163,6 +169,8 @@ pub fn trouble(n: u64) {
         ENDED_EARLY => text(b"the session ended too early\n"),
         STUCK => text(b"the desk waits, and nothing is on its way\n"),
         TOO_MANY_CALLS => text(b"too many calls\n"),
+        NO_ROOM => text(b"the copies leave no room for an event\n"),
+        UNSETTLED => text(b"the bytes released are not those appended\n"),
         _ => figure(b"a call was refused, number", n),
     }
 }

@@ -1,6 +1,7 @@
 // The figures of the days so far.
 use crate::bank::Bank;
 use crate::chance::minus;
+use crate::copies::Copies;
 use crate::link::Link;
 use crate::server::Server;
 use crate::world::World;
@@ -12,6 +13,9 @@ pub struct Tally {
     pub chunks: u64,
     pub own_flushes: u64,
     pub waiters: u64,
+    // events that the bank dropped, and how many of them before the desk had its answer
+    pub dropped: u64,
+    pub unanswered: u64,
     // the messages' bytes, and the CRC32C of these
     pub messages: u64,
     pub sum: u32,
@@ -25,6 +29,8 @@ pub struct Tally {
     pub doubled: u64,
     pub misplaced: u64,
     pub cut_off: u64,
+    pub unpersisted: u64,
+    pub lacking: u64,
     // a day did not come to its end
     pub failed: bool,
 }
@@ -43,10 +49,14 @@ pub fn new() -> Tally {
         failed_sends: 0,
         again: 0,
         waiters: 0,
+        dropped: 0,
+        unanswered: 0,
         lost: 0,
         doubled: 0,
         misplaced: 0,
         cut_off: 0,
+        unpersisted: 0,
+        lacking: 0,
         failed: false,
     }
 }
@@ -55,9 +65,11 @@ impl Tally {
     // A day more. The object is held to what the bank appended.
     pub fn with(self, w: World) -> Tally {
         let mut t = self.with_bank(w.bank)
+            .with_copies(w.copies)
             .with_link(w.link)
             .with_server(w.server, w.bank.bytes);
         t.lost = wrapping_add_u64(t.lost, w.early);
+        t.failed = w.verdict() != 0;
         t
     }
 
@@ -69,7 +81,14 @@ impl Tally {
         self.waiters = wrapping_add_u64(self.waiters, b.completed);
         self.failed_sends = wrapping_add_u64(self.failed_sends, b.failed_sends);
         self.again = wrapping_add_u64(self.again, b.again);
-        self.failed = b.verdict() != 0;
+        self
+    }
+
+    fn with_copies(mut self, c: Copies) -> Tally {
+        self.dropped = wrapping_add_u64(self.dropped, c.dropped);
+        self.unanswered = wrapping_add_u64(self.unanswered, c.unanswered);
+        self.unpersisted = wrapping_add_u64(self.unpersisted, c.unpersisted);
+        self.lacking = wrapping_add_u64(self.lacking, c.lacking);
         self
     }
 
@@ -103,6 +122,12 @@ impl Tally {
         if self.doubled != 0 {
             return false;
         }
-        self.misplaced == 0
+        if self.misplaced != 0 {
+            return false;
+        }
+        if self.unpersisted != 0 {
+            return false;
+        }
+        self.lacking == 0
     }
 }

@@ -7,10 +7,15 @@ use crate::bank;
 use crate::bank::Bank;
 use crate::bank::EVENTS;
 use crate::bank::GO_ON;
+use crate::bank::NO_ROOM;
 use crate::bank::STUCK;
+use crate::bank::UNSETTLED;
 use crate::chance;
 use crate::chance::minus;
-use crate::journal;
+use crate::copies;
+use crate::copies::Copies;
+use crate::copies::LONGEST;
+use crate::copies::RING;
 use crate::link;
 use crate::link::ANSWER;
 use crate::link::CHUNK;
@@ -41,6 +46,7 @@ pub struct World {
     pub key: u64,
     pub journal: u64,
     pub bank: Bank,
+    pub copies: Copies,
     pub link: Link,
     pub server: Server,
     // bytes whose waiter was completed before they were persisted
@@ -53,20 +59,22 @@ pub struct Move {
     pub call: Call,
 }
 
-pub fn new(seed: u64, breaks: u64, a: OpenAnswer, event: &mut [u8]) -> World {
+pub fn new(seed: u64, breaks: u64, a: OpenAnswer, released: usize, ring: &mut [u8; RING]) -> World {
     let journal = chance::draw(seed, 50, 4294967296);
     let bank = bank::new(opened(a));
+    let copies = copies::new(released);
     let link = link::new(breaks);
     let server = server::new(journal);
     let w = World {
         key: chance::draw(seed, 51, 4294967296),
         journal,
         bank,
+        copies,
         link,
         server,
         early: 0,
     };
-    begin(w, event)
+    begin(w, ring)
 }
 
 fn opened(a: OpenAnswer) -> u64 {
@@ -76,16 +84,46 @@ fn opened(a: OpenAnswer) -> u64 {
     }
 }
 
+impl World {
+    // What went wrong today.
+    pub fn verdict(self) -> u64 {
+        let n = self.bank.verdict();
+        if n != 0 {
+            return n;
+        }
+        if self.copies.is_settled(self.bank.bytes) {
+            return 0;
+        }
+        UNSETTLED
+    }
+}
+
 // ---- the day's tasks
 
 // The next task: an event of about 6,000 bytes, or at the end none.
-fn begin(mut w: World, event: &mut [u8]) -> World {
+fn begin(mut w: World, ring: &mut [u8; RING]) -> World {
     let done = w.bank.task;
-    let bank = w.bank.begin(length_of(w.key, done, event.len()));
+    let bank = w.bank.begin(length_of(w.key, done, LONGEST));
     w.bank = bank;
     let messages = messages_left(done);
     w.link.messages = messages;
-    journal::fill(event, w.journal, w.bank.bytes);
+    keep(w, ring)
+}
+
+// The bank keeps a copy of the event, if there is one.
+fn keep(mut w: World, ring: &mut [u8; RING]) -> World {
+    if w.bank.length == 0 {
+        return w;
+    }
+    if !w.copies.has_room() {
+        w.bank.trouble = NO_ROOM;
+        return w;
+    }
+    let from = w.bank.bytes;
+    let to = wrapping_add_u64(from, w.bank.length as u64);
+    copies::fill(ring, w.journal, from, to);
+    let copies = w.copies.with(to);
+    w.copies = copies;
     w
 }
 
@@ -106,7 +144,7 @@ fn messages_left(done: u64) -> u64 {
 }
 
 // A task ends with the completion of its waiter. Then "the base and every byte taken before the call that made it are persisted".
-fn work(mut w: World, event: &mut [u8]) -> World {
+fn work(mut w: World, ring: &mut [u8; RING]) -> World {
     if !w.bank.is_answered() {
         return w;
     }
@@ -114,13 +152,13 @@ fn work(mut w: World, event: &mut [u8]) -> World {
     if w.bank.task % 100 == 0 {
         print::progress(w.bank.task, w.server.persisted, w.link.broken);
     }
-    begin(w, event)
+    begin(w, ring)
 }
 
 // ---- the next call
 
-pub fn next(w: World, event: &mut [u8]) -> Move {
-    let mut w = work(w, event);
+pub fn next(w: World, ring: &mut [u8; RING]) -> Move {
+    let mut w = work(w, ring);
     w.key = chance::next(w.key);
     if w.bank.unsent {
         return act(w);
@@ -239,20 +277,29 @@ fn greet(mut w: World) -> Move {
 // ---- its answer
 
 // The modem board gets the request's message.
-pub fn heard(mut w: World, a: Answer, out: &[u8], message: &mut [u8]) -> World
+pub fn heard(w: World, a: Answer, out: &[u8], message: &mut [u8], ring: &mut [u8; RING]) -> World
     requires { ⌜ sentLength a ≤ length (now out) ⌝ }
 {
-    let bank = w.bank.heard(a);
-    w.bank = bank;
+    let w = noted(w, a, ring);
     let handed = shown::handed(a);
     let MaybeRequest::Present(request) = handed else {
         return w;
     };
     let written = wire::write(request, out, message);
     match written {
-        WriteAnswer::Wrote(n) => send(carried(w, &message[..n]), request, out),
+        WriteAnswer::Wrote(n) => send(carried(w, &message[..n]), request, out, ring),
         WriteAnswer::Refused(x) => refused(w, x),
     }
+}
+
+// The bank notes the answer, and drops the copies that it may.
+fn noted(mut w: World, a: Answer, ring: &mut [u8; RING]) -> World {
+    let bank = w.bank.heard(a);
+    w.bank = bank;
+    let told = w.copies.told(shown::released(a));
+    let copies = copies::drop_released(told, ring, w.bank.answered(), w.server.persisted);
+    w.copies = copies;
+    w
 }
 
 fn carried(mut w: World, message: &[u8]) -> World {
@@ -268,9 +315,10 @@ fn refused(mut w: World, x: Refusal) -> World {
 }
 
 // The host "sends each request once, on the present connection, or reports it failed". What is sent on a connection that was cut is lost with it.
-fn send(mut w: World, r: Request, out: &[u8]) -> World
+fn send(w: World, r: Request, out: &[u8], ring: &[u8; RING]) -> World
     requires { ⌜ lengthOf (r .«data») ≤ length (now out) ⌝ }
 {
+    let mut w = compared(w, r, out, ring);
     if !w.server.alive {
         return sent(w, r, chance::one_in(w.key, 43, 2));
     }
@@ -284,6 +332,21 @@ fn send(mut w: World, r: Request, out: &[u8]) -> World
     let link = w.link.passed();
     w.link = link;
     sent(w, r, false)
+}
+
+// Every chunk is held to the bank's copies, those sent again too.
+fn compared(mut w: World, r: Request, out: &[u8], ring: &[u8; RING]) -> World
+    requires { ⌜ lengthOf (r .«data») ≤ length (now out) ⌝ }
+{
+    let at = r.write_offset;
+    let data = r.data;
+    let Data::Checksummed(c) = data else {
+        return w;
+    };
+    let n = c.length;
+    let copies = w.copies.handed(ring, &out[..n], bidi_write::to_nat(at));
+    w.copies = copies;
+    w
 }
 
 fn sent(mut w: World, r: Request, unsent: bool) -> World {

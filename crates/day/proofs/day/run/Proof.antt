@@ -1,16 +1,17 @@
 use mathlib.Core.Path.{_≡_, sym}
 use native.Mathlib.Omega.{arith}
 use lib.ListN.{length}
+use lib.Seq.{length-take-le}
 use borrow.Author.Needs.{needs}
 use Rattle.day.proofs.day.run.Statement.{statement}
 use Rattle.day.proofs.day.run.Tie as tie
 
 abbrev Inv-loop : tie.InvT-loop
-Inv-loop seed breaks store₀ table₀ out₀ message₀ event₀ s₀ w₀ calls₀ detail parts handle store table out message event s w calls =
+Inv-loop seed breaks store₀ table₀ out₀ message₀ copies₀ event₀ s₀ w₀ calls₀ detail parts handle store table out message copies event s w calls =
     (length store ≡ 24574) × (length table ≡ 64) × (length out ≡ 4096) × (length message ≡ 4135) × (length event ≡ 9000)
 
 abbrev μ-loop : tie.MeasureT-loop
-μ-loop seed breaks store₀ table₀ out₀ message₀ event₀ s₀ w₀ calls₀ detail parts handle store table out message event s w calls = calls
+μ-loop seed breaks store₀ table₀ out₀ message₀ copies₀ event₀ s₀ w₀ calls₀ detail parts handle store table out message copies event s w calls = calls
 
 slice-aggregate-open : tie.Need-slice-aggregate-open Inv-loop μ-loop
 slice-aggregate-open c = search needs
@@ -21,26 +22,29 @@ slice-aggregate-open-2 c = search needs
 open-requires : tie.Need-open-requires Inv-loop μ-loop
 open-requires c κs = search needs
 
-slice-aggregate-new : tie.Need-slice-aggregate-new Inv-loop μ-loop
-slice-aggregate-new c = search needs
-
 new-requires : tie.Need-new-requires Inv-loop μ-loop
 new-requires c κs = search needs
 
 loop-holds : tie.Need-loop-holds Inv-loop μ-loop
 loop-holds c = search needs
 
-slice-aggregate-next : tie.Need-slice-aggregate-next Inv-loop μ-loop
-slice-aggregate-next c = search needs
-
 next-requires : tie.Need-next-requires Inv-loop μ-loop
 next-requires c κs = search needs
 
-slice-aggregate-rest : tie.Need-slice-aggregate-rest Inv-loop μ-loop
-slice-aggregate-rest c = search needs
+left-requires : tie.Need-left-requires Inv-loop μ-loop
+left-requires c κs = search needs
 
-rest-requires : tie.Need-rest-requires Inv-loop μ-loop
-rest-requires c κs = search needs
+slice-aggregate-read : tie.Need-slice-aggregate-read Inv-loop μ-loop
+slice-aggregate-read c = search needs
+
+read-requires : tie.Need-read-requires Inv-loop μ-loop
+read-requires c κs = search needs
+
+array-share-prefix-event : tie.Need-array-share-prefix-event Inv-loop μ-loop
+array-share-prefix-event c = search needs
+
+slice-aggregate-data : tie.Need-slice-aggregate-data Inv-loop μ-loop
+slice-aggregate-data c = sym (length-take-le _ _ (array-share-prefix-event (c .before)))
 
 slice-aggregate-either : tie.Need-slice-aggregate-either Inv-loop μ-loop
 slice-aggregate-either c = search needs
@@ -58,13 +62,13 @@ beside-requires : tie.Need-beside-requires Inv-loop μ-loop
 beside-requires c κs = search needs
 
 slice-aggregate-step : tie.Need-slice-aggregate-step Inv-loop μ-loop
-slice-aggregate-step c = search needs
+slice-aggregate-step c = sym (c .before .before .before .before .before .before .before .before .before .before .before .before .before .before .before .before .before .loop .inv .0)
 
 slice-aggregate-step-2 : tie.Need-slice-aggregate-step-2 Inv-loop μ-loop
-slice-aggregate-step-2 c = search needs
+slice-aggregate-step-2 c = sym (c .before .before .before .before .before .before .before .before .before .before .before .before .before .before .before .before .before .before .loop .inv .1)
 
 slice-aggregate-step-3 : tie.Need-slice-aggregate-step-3 Inv-loop μ-loop
-slice-aggregate-step-3 c = search needs
+slice-aggregate-step-3 c = sym (c .before .before .before .before .before .before .before .before .before .before .before .before .before .before .before .before .before .before .before .loop .inv .2)
 
 step-requires : tie.Need-step-requires Inv-loop μ-loop
 step-requires c κs = search needs
@@ -73,38 +77,38 @@ slice-aggregate-heard : tie.Need-slice-aggregate-heard Inv-loop μ-loop
 slice-aggregate-heard c = search needs
 
 slice-aggregate-heard-2 : tie.Need-slice-aggregate-heard-2 Inv-loop μ-loop
-slice-aggregate-heard-2 c = sym (c .before .before .before .before .before .before .before .before .before .before .before .before .before .before .before .before .before .before .before .before .before .before .before .loop .inv .3)
+slice-aggregate-heard-2 c = sym (c .before .before .before .before .before .before .before .before .before .before .before .before .before .before .before .before .before .before .before .before .before .before .before .before .before .before .loop .inv .3)
 
 heard-requires : tie.Need-heard-requires Inv-loop μ-loop
 heard-requires c κs =
-    let out = c .before .before .before in
+    let out = c .before .before .before .before in
     let made = out .before .before .before in
     omega (arith, made .step .ensures .sent-in, out .out2 .given)
 
 sub-calls-left : tie.Need-sub-calls-left Inv-loop μ-loop
-sub-calls-left c = omega (arith, c .before .before .before .before .before .before .before .before .before .before .before .before .before .before .before .before .before .before .before .before .before .before .before .before .loop-test .taken)
+sub-calls-left c = omega (arith, c .before .before .before .before .before .before .before .before .before .before .before .before .before .before .before .before .before .before .before .before .before .before .before .before .before .before .before .before .loop-test .taken)
 
 calls-left-requires : tie.Need-calls-left-requires Inv-loop μ-loop
 calls-left-requires c κs = search needs
 
 loop-less : tie.Need-loop-less Inv-loop μ-loop
 loop-less c =
-    let turn = c .before .before .before .before .before .before .before .before .before .before .before .before .before .before .before .before .before .before .before .before .before .before .before .before .before in
+    let turn = c .before .before .before .before .before .before .before .before .before .before .before .before .before .before .before .before .before .before .before .before .before .before .before .before .before .before .before .before .before in
     omega (arith, c .calls-left .ensures, turn .loop-test .taken)
 
 loop-again : tie.Need-loop-again Inv-loop μ-loop
 loop-again c =
     let message = c .before in
-    let out = message .before .before .before .before .before in
+    let out = message .before .before .before .before .before .before in
     let table = out .before in
     let store = table .before in
-    let event = store .before .before .before .before .before .before .before .before .before .before .before .before .before .before in
-    let inv = event .before .before .before .before .loop .inv in (
+    let event = store .before .before .before .before .before .before .before .before .before .before .before .before in
+    let inv = event .before .before .before .before .before .before .before .before .before .loop .inv in (
       omega (arith, store .store4 .given, inv .0),
       omega (arith, table .table4 .given, inv .1),
       omega (arith, out .out2 .given, inv .2),
       omega (arith, message .message2 .given, inv .3),
-      omega (arith, event .event4 .given, inv .4),
+      omega (arith, event .event2 .given, inv .4),
     )
 
 returns : tie.Need-returns Inv-loop μ-loop
@@ -119,13 +123,14 @@ run-spec =
     slice-aggregate-open
     slice-aggregate-open-2
     open-requires
-    slice-aggregate-new
     new-requires
     loop-holds
-    slice-aggregate-next
     next-requires
-    slice-aggregate-rest
-    rest-requires
+    left-requires
+    slice-aggregate-read
+    read-requires
+    array-share-prefix-event
+    slice-aggregate-data
     slice-aggregate-either
     slice-aggregate-either-2
     either-requires

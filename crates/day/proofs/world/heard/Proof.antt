@@ -8,8 +8,8 @@ use borrow.Author.Needs.{needs}
 use Rattle.day.proofs.world.heard.Statement.{statement}
 use Rattle.day.proofs.world.heard.Tie as tie
 
-heard-requires : tie.Need-heard-requires
-heard-requires c κs = search needs
+noted-requires : tie.Need-noted-requires
+noted-requires c κs = search needs
 
 handed-requires : tie.Need-handed-requires
 handed-requires c κs = search needs
@@ -42,9 +42,9 @@ carried-requires c κs = search needs
 
 send-requires : tie.Need-send-requires
 send-requires c κs =
-    let known = c .before .before .before .before .before .before .before .before .before .before in
+    let known = c .before .before .before .before .before .before .before .before .before .before .before in
     let asked = known .before .before in
-    let entry = asked .before .before .before .before in
+    let entry = asked .before .before .before .before .before in
     let fits = subst (λ x. maybeLength x ≤ length (entry .args .out .now)) (sym (asked .handed .ensures)) (entry .pre) in
     subst (λ x. maybeLength x ≤ length (entry .args .out .now)) (known .handed2 .given .1) fits
 
@@ -70,7 +70,7 @@ pub heard-spec : {M : Type 1} → statement M
 heard-spec =
     tie.close
     (tie.spec
-    heard-requires
+    noted-requires
     handed-requires
     enum-known-handed
     enum-told
