@@ -10,7 +10,7 @@ use Rattle.rules.specs.Session as R
 use Rattle.rules.specs.Step.{step}
 use Rattle.rules.specs.Opening as O
 use Rattle.rules.specs.Demand3.{Holds}
-use Rattle.rules.specs.Beyond.{HoldsBeyond}
+use Rattle.rules.specs.More.{HoldsMore}
 use Rattle.rules.specs.Total as total
 use Rattle.rules.specs.Released.{Accounted, MayDrop, ReleasedBy}
 use Rattle.rules.specs.Calls.{begin, HoldsCalled}
@@ -90,8 +90,8 @@ begun o m b = (
 pub host-demand3 : Always (λ o k w. Holds w)
 host-demand3 = rules.program-demand3 viewOf (Does Ensures) Begins ValidAt keeps begun
 
-pub host-beyond-demand3 : Always (λ o k w. HoldsBeyond w)
-host-beyond-demand3 = rules.program-beyond viewOf (Does Ensures) Begins ValidAt keeps begun
+pub host-more-than-demand3 : Always (λ o k w. HoldsMore w)
+host-more-than-demand3 = rules.program-more viewOf (Does Ensures) Begins ValidAt keeps begun
 
 pub host-byte-total : Always (λ o k w. total.Total (total.firstTaken (o .payload) (k .object)) w)
 host-byte-total = rules.program-byte-total viewOf (Does Ensures) Begins ValidAt keeps begun

@@ -16,7 +16,7 @@ use Rattle.rules.specs.Upload.{chunkRequest}
 use Rattle.rules.specs.Server.{Server, setRequests, setMessages, loses, onLink, onStored, connects, isAt, isSum, takesChunk, takesFinish, takesOne, takesNext, persists}
 use Rattle.rules.specs.Notes.{contentOf}
 use Rattle.rules.specs.World.{sending}
-use Rattle.rules.specs.Beyond.{RightFinish}
+use Rattle.rules.specs.More.{RightFinish}
 use Rattle.rules.proofs.Tests.{never, clash, and-true}
 use Rattle.rules.proofs.Lists.{cond-ind}
 use Rattle.rules.proofs.Inv.{Asked, ServerOK, Fit, Fits, goalAt, FlowOK}

@@ -14,7 +14,7 @@ use Rattle.rules.specs.Replay.{place}
 use Rattle.rules.specs.Server.{Server}
 use Rattle.rules.specs.Notes.{Mark, Notes, contentOf}
 use Rattle.rules.specs.World.{World}
-use Rattle.rules.specs.Beyond.{RightFinish}
+use Rattle.rules.specs.More.{RightFinish}
 use Rattle.rules.proofs.Lists.{Chain, Slice}
 
 -- ---- stored and held bytes

@@ -1,4 +1,4 @@
--- The proof of demand 3 and of what is stated beyond it, lowest first; then what holds of the rules by themselves, and runs of them.
+-- The proof of demand 3 and of what is stated more than it, lowest first; then what holds of the rules by themselves, and runs of them.
 pub mod Tests
 pub mod Lists
 pub mod Inv
@@ -20,7 +20,7 @@ pub mod Called
 pub mod CalledStart
 pub mod Turns
 pub mod Demand3
-pub mod Beyond
+pub mod More
 pub mod Released
 pub mod Total
 pub mod Bound

@@ -10,13 +10,13 @@ use Rattle.rules.specs.Server.{Stored}
 use Rattle.rules.specs.World.{World, callIn}
 use Rattle.rules.specs.Program.{Turn, turned, AllDid, ran, Always, itself, Steps, AlwaysSteps}
 use Rattle.rules.specs.Demand3.{Holds}
-use Rattle.rules.specs.Beyond.{HoldsBeyond}
+use Rattle.rules.specs.More.{HoldsMore}
 use Rattle.rules.specs.Total.{firstTaken, Total}
 use Rattle.rules.specs.Released.{Accounted, MayDrop}
 use Rattle.rules.specs.Calls.{Run, called, calledAll, begin, AlwaysSince, HoldsCalled, CallTurn, AllDidCall, ranCalls, leftBy, AlwaysDidCall}
 use Rattle.rules.proofs.Lists.{opt-ind}
 use Rattle.rules.proofs.Demand3.{demand3}
-use Rattle.rules.proofs.Beyond.{beyond-demand3}
+use Rattle.rules.proofs.More.{more-than-demand3}
 use Rattle.rules.proofs.Released.{released-total}
 use Rattle.rules.proofs.Total.{byte-total, copies-needed}
 use Rattle.rules.proofs.CalledStart.{calls-hold}
@@ -52,8 +52,8 @@ module _ {S : Type 0} (view : S → Session) (Does : Call → S → Answer → S
   pub program-demand3 : Always view Does Begins (λ o k w. Holds w)
   program-demand3 = program-always (λ o k w. Holds w) demand3
 
-  pub program-beyond : Always view Does Begins (λ o k w. HoldsBeyond w)
-  program-beyond = program-always (λ o k w. HoldsBeyond w) beyond-demand3
+  pub program-more : Always view Does Begins (λ o k w. HoldsMore w)
+  program-more = program-always (λ o k w. HoldsMore w) more-than-demand3
 
   pub program-byte-total : Always view Does Begins (λ o k w. Total (firstTaken (o .payload) (k .object)) w)
   program-byte-total = program-always (λ o k w. Total (firstTaken (o .payload) (k .object)) w) byte-total

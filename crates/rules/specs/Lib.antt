@@ -17,7 +17,7 @@ pub mod Notes
 pub mod World
 pub mod Program
 pub mod Demand3
-pub mod Beyond
+pub mod More
 pub mod Calls
 pub mod Total
 pub mod Released

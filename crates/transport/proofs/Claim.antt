@@ -1,4 +1,4 @@
--- Demand 3, what is stated beyond it, the byte total, the copies that a host needs, and for any input what holds of the calls alone, for any list of which
+-- Demand 3, what is stated more than it, the byte total, the copies that a host needs, and for any input what holds of the calls alone, for any list of which
 -- only the promises are known.
 -- Assumes nothing.
 use mathlib.Core.Path.{_≡_, sym, ap, _∙_, subst}
@@ -7,7 +7,7 @@ use Rattle.rules.specs.Session as R
 use Rattle.rules.specs.Step.{step}
 use Rattle.rules.specs.Opening.{Opening, opened, opens}
 use Rattle.rules.specs.Demand3.{Holds}
-use Rattle.rules.specs.Beyond.{HoldsBeyond}
+use Rattle.rules.specs.More.{HoldsMore}
 use Rattle.rules.specs.Total as total
 use Rattle.rules.specs.Released.{Accounted, MayDrop}
 use Rattle.rules.specs.Calls.{begin, HoldsCalled, leftBy}
@@ -28,8 +28,8 @@ begun o m b = (b .valid, b .opens-is)
 pub program-demand3 : Always (λ o k w. Holds w)
 program-demand3 = rules.program-demand3 viewOf (Does Promises) Begins ValidAt keeps begun
 
-pub program-beyond-demand3 : Always (λ o k w. HoldsBeyond w)
-program-beyond-demand3 = rules.program-beyond viewOf (Does Promises) Begins ValidAt keeps begun
+pub program-more-than-demand3 : Always (λ o k w. HoldsMore w)
+program-more-than-demand3 = rules.program-more viewOf (Does Promises) Begins ValidAt keeps begun
 
 pub program-byte-total : Always (λ o k w. total.Total (total.firstTaken (o .payload) (k .object)) w)
 program-byte-total = rules.program-byte-total viewOf (Does Promises) Begins ValidAt keeps begun

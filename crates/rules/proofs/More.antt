@@ -6,7 +6,7 @@ use lib.ListN.{length, take, drop}
 use lib.Seq.{take-at, drop-at}
 use Rattle.rules.specs.Message.{Bytes, ChecksummedData, Request}
 use Rattle.rules.specs.World.{World, runs, start}
-use Rattle.rules.specs.Beyond.{RightChunk, RightFinish, RightRequest, HoldsBeyond, BeyondDemand3}
+use Rattle.rules.specs.More.{RightChunk, RightFinish, RightRequest, HoldsMore, MoreThanDemand3}
 use Rattle.rules.proofs.Tests.{clash}
 use Rattle.rules.proofs.Lists.{all-map, Slice, slice-grow}
 use Rattle.rules.proofs.Inv.{Right, isRegressed, Inv}
@@ -33,14 +33,14 @@ right-request {w} i r h = record {
   finish = λ e. subst (λ (x : Bytes). RightFinish x r) (sym (all-chunked i ((h .finish e) .0))) ((h .finish e) .1);
 }
 
-pub holds-beyond : {from : ℕ} (w : World) → Inv from w → HoldsBeyond w
-holds-beyond w i = record {
+pub holds-more : {from : ℕ} (w : World) → Inv from w → HoldsMore w
+holds-more w i = record {
   requests = all-map (Right (i .K) (w .session .worker .finalized)) (RightRequest (w .notes .all)) (right-request i) (w .notes .handed) (i .handed .right);
   finalised = λ n m l e. (completed-mark i n m l e) .finalised;
   uncut = λ e. (i .flow .flows e) .alive;
   steady = λ e. clash (ap isRegressed e) (i .steady);
 }
 
-pub beyond-demand3 : BeyondDemand3
-beyond-demand3 = steps-of-runs (λ o k w. HoldsBeyond w)
-    (λ o s a k v es. holds-beyond (runs es (start o s k)) (runs-keep es (start o s k) (start-inv o s a k v)))
+pub more-than-demand3 : MoreThanDemand3
+more-than-demand3 = steps-of-runs (λ o k w. HoldsMore w)
+    (λ o s a k v es. holds-more (runs es (start o s k)) (runs-keep es (start o s k) (start-inv o s a k v)))

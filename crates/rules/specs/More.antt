@@ -23,7 +23,7 @@ pub record RightRequest (W : Bytes) (r : Request) : Type 0 where
   pub chunk : (d : ChecksummedData) → r .checksummedData ≡ some d → RightChunk W r d
   pub finish : r .finishWrite ≡ true → RightFinish W r
 
-pub record HoldsBeyond (w : World) : Type 0 where
+pub record HoldsMore (w : World) : Type 0 where
   -- (a) every request ever handed out is right, trimmed chunks too
   pub requests : All (RightRequest (w .notes .all)) (w .notes .handed)
   -- (b) "once a finalise's waiter is reported completed, the server's object is finalised"
@@ -34,5 +34,5 @@ pub record HoldsBeyond (w : World) : Type 0 where
   -- (d) no session regresses
   pub steady : w .session .phase ≢ ended regressed
 
-abbrev pub BeyondDemand3 : Type 0
-BeyondDemand3 = AlwaysSteps (λ o k w. HoldsBeyond w)
+abbrev pub MoreThanDemand3 : Type 0
+MoreThanDemand3 = AlwaysSteps (λ o k w. HoldsMore w)
