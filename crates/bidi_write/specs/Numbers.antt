@@ -1,16 +1,11 @@
 -- Signed numbers as natural ones, and their difference.
 use mathlib.Core.Path.{_≡_}
 use mathlib.Core.Bool.{Bool, true, false}
-use Prim.Native.Nat.{ℕ}
-use lib.IntN.{ℤ, pos, negsuc, negℤ, _-ℤ_}
+use lib.IntN.{ℤ, pos, negℤ, _-ℤ_}
 use lib.Signed.{ltZ}
+pub use Rattle.rules.specs.Basics.{toℕ}
 use Rattle.bidi_write.specs.declared.Difference.{Difference}
 use Rattle.bidi_write.specs.declared.Difference.the-variants as difference
-
--- the number, and 0 for one below 0
-abbrev pub toℕ : ℤ → ℕ
-toℕ (pos n) = n
-toℕ (negsuc n) = 0
 
 abbrev pub differenceOf : Difference → ℤ
 differenceOf (difference.Below n) = negℤ (pos n)

@@ -1,5 +1,4 @@
 -- The records of the code as the rules' messages.
-use mathlib.Core.Bool.{Bool, true, false}
 use mathlib.Core.Option.{Option, none, some}
 use Prim.Native.Nat.{ℕ}
 use lib.ListN.{take}
@@ -99,6 +98,7 @@ sizeOf (size.Stated n) = some (n .0)
 abbrev pub causeOf : Cause → S.Cause
 causeOf cause.Finished = S.finished
 causeOf cause.Regressed = S.regressed
+causeOf cause.Beyond = S.beyond
 causeOf cause.AlreadyFinalized = S.alreadyFinalized
 causeOf cause.Permanent = S.permanent
 causeOf cause.Exhausted = S.exhausted

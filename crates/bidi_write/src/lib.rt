@@ -116,6 +116,7 @@ pub enum Break {
 pub enum Cause {
     Finished,
     Regressed,
+    Beyond,
     AlreadyFinalized,
     Permanent,
     Exhausted,

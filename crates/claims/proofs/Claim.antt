@@ -12,11 +12,13 @@ use Rattle.rules.specs.Opening as O
 use Rattle.rules.specs.Demand3.{Holds}
 use Rattle.rules.specs.More.{HoldsMore}
 use Rattle.rules.specs.Total as total
+use Rattle.rules.specs.Past.{PastEnd}
 use Rattle.rules.specs.Released.{Accounted, MayDrop, ReleasedBy}
 use Rattle.rules.specs.Calls.{begin, HoldsCalled}
 use Rattle.rules.specs.Notes.{releasedIn}
 use Rattle.rules.proofs.Program as rules
 use Rattle.rules.proofs.Refused.{malformed-exactly}
+use Rattle.rules.proofs.Past.{beyond-exactly}
 use Rattle.rules.proofs.Released as freed
 use Rattle.bidi_write.specs.View.{given}
 use Rattle.transport.specs.View.{view, answerOf}
@@ -34,6 +36,7 @@ use Rattle.openings.proofs.Openings.{accepted-is}
 use Rattle.claims.specs.Claim.{Ensures, Begins, Always, AlwaysCalled, StoredBound}
 use Rattle.claims.specs.Sendable.{AlwaysSendable}
 use Rattle.claims.specs.Malformed.{AlwaysMalformed}
+use Rattle.claims.specs.Past.{AlwaysPast}
 use Rattle.claims.specs.Released.{storedIn, AlwaysReleased, AlwaysOpeningReleased}
 use Rattle.claims.proofs.Sendable.{handed-out-reads}
 
@@ -93,14 +96,17 @@ host-demand3 = rules.program-demand3 viewOf (Does Ensures) Begins ValidAt keeps 
 pub host-more-than-demand3 : Always (λ o k w. HoldsMore w)
 host-more-than-demand3 = rules.program-more viewOf (Does Ensures) Begins ValidAt keeps begun
 
-pub host-byte-total : Always (λ o k w. total.Total (total.firstTaken (o .payload) (k .object)) w)
-host-byte-total = rules.program-byte-total viewOf (Does Ensures) Begins ValidAt keeps begun
+pub host-byte-total-served : Always (λ o k w. total.ServedTotal (total.firstTaken (o .payload) (k .object)) w)
+host-byte-total-served = rules.program-byte-total-served viewOf (Does Ensures) Begins ValidAt keeps begun
 
 pub host-calls-hold : AlwaysCalled (λ _ r. HoldsCalled r)
 host-calls-hold = rules.program-calls-hold viewOf (Does Ensures) Begins ValidAt keeps begun
 
 pub host-copies-needed : Always (λ o k w. MayDrop (total.firstTaken (o .payload) (k .object)) w)
 host-copies-needed = rules.program-copies-needed viewOf (Does Ensures) Begins ValidAt keeps begun
+
+pub host-byte-total : AlwaysCalled total.Total
+host-byte-total = rules.program-byte-total viewOf (Does Ensures) Begins ValidAt keeps begun
 
 pub host-released-total : AlwaysCalled (λ _ r. Accounted r)
 host-released-total = rules.program-released-total viewOf (Does Ensures) Begins ValidAt keeps begun
@@ -118,6 +124,13 @@ program-malformed-exactly c m out o store table out′ p v = ap (λ (x : R.Resul
 
 pub host-malformed-exactly : AlwaysMalformed Ensures
 host-malformed-exactly c m out o store table out′ e = program-malformed-exactly c m out o store table out′ (promised c m out o store table out′ e)
+
+-- a report past the end
+pub program-beyond-exactly : AlwaysPast Promises
+program-beyond-exactly c m out o store table out′ p v = subst (PastEnd c (viewOf m)) (sym (p .steps v)) (beyond-exactly c (viewOf m))
+
+pub host-beyond-exactly : AlwaysPast Ensures
+host-beyond-exactly c m out o store table out′ e = program-beyond-exactly c m out o store table out′ (promised c m out o store table out′ e)
 
 -- ---- how much was released
 

@@ -1,4 +1,5 @@
 pub mod Claim
 pub mod Sendable
 pub mod Malformed
+pub mod Past
 pub mod Released

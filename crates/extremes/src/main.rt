@@ -25,7 +25,7 @@ fn main() {
     forged(b"2^64 - 1 waiters made", u64::MAX - 1, 0, b"ffwaffrf");
     forged(b"2^64 - 1 set", u64::MAX, 0, b"f");
     forged(b"attempt 2^32 - 2", 0, u32::MAX - 1, b"bvhnbvhnb");
-    forged(b"attempt 2^32 - 1", 0, u32::MAX, b"bvhnbvHnb");
+    forged(b"attempt 2^32 - 1", 0, u32::MAX, b"afbvhnnnbvHnb");
 }
 
 // ---- cases

@@ -14,7 +14,7 @@ use Rattle.rules.specs.Notes.{Brings, shows, accepted, requestIn, plain,
 use Rattle.rules.specs.World.{World, sending, after}
 use Rattle.rules.proofs.Tests.{never, or-no-right}
 use Rattle.rules.proofs.Lists.{cond-ind}
-use Rattle.rules.proofs.Inv.{isRegressed, Inv}
+use Rattle.rules.proofs.Inv.{endedBySize, Inv}
 
 abbrev pub calls : Call → Bool → World → World
 calls c could w = after c could w (step c (w .session))
@@ -84,8 +84,8 @@ replay-over (verdict r) = refl
 replay-over (replay i) = refl
 replay-over (ended c) = refl
 
-pub over-steady : (ph : Phase) → isRegressed ph ≡ false → isRegressed (cond (isReplay ph) live ph) ≡ false
-over-steady ph e = cond-ind (λ (x : Phase). isRegressed x ≡ false) (isReplay ph) (λ _. refl) (λ _. e)
+pub over-steady : (ph : Phase) → endedBySize ph ≡ false → endedBySize (cond (isReplay ph) live ph) ≡ false
+over-steady ph e = cond-ind (λ (x : Phase). endedBySize x ≡ false) (isReplay ph) (λ _. refl) (λ _. e)
 
 -- finalise was not sent
 pub not-sent : (s : Session) → closed s ≡ false → s .worker .finalized ≡ false

@@ -1,5 +1,5 @@
 -- Every call keeps the invariant over calls.
-use mathlib.Core.Path.{_≡_, refl, sym, subst}
+use mathlib.Core.Path.{_≡_, refl, sym, subst, subst₂}
 use mathlib.Core.Bool.{Bool, true, false, cond}
 use mathlib.Core.Option.{Option, none, some}
 use mathlib.Core.List.{List, [], _∷_}
@@ -7,11 +7,12 @@ use Prim.Native.Nat.{ℕ, _+_, _-_, _≤_, _<_}
 use native.Mathlib.Omega.{arith}
 use lib.ListN.{length, take, drop, getElem?, length-append, length-take}
 use lib.IntN.{ℤ}
+use lib.Signed.{ltZ}
 use borrow.Author.Tests.{leb-false}
 use Rattle.rules.specs.Message.{Bytes, Response, Break}
 use Rattle.rules.specs.Session.{ReplayChunk, ReplayBuffer, PendingKind, flushing, finalizing, PendingRequest, Worker, Cause, Phase, Session, Call, append, flush, finalise, nextRequest, close, sendFailed, response, handshake, break, judge, failedAttempt, Answer, refused, took, waits, Result, answers, setWorker, isReplay, isEnded, bytesOf, chunks, waiters, stored, full, ending}
 use Rattle.rules.specs.Upload.{room, holding, holds, requestFor, waiterOf, awaits, appends, asks, closes}
-use Rattle.rules.specs.Respond.{satisfied, absorbs, takes, lastStep, responds, toReplay, shakes}
+use Rattle.rules.specs.Respond.{satisfied, absorbs, aboveEnd, takes, lastStep, responds, toReplay, shakes}
 use Rattle.rules.specs.Reconnect.{breaks, ruled, judges, fails}
 use Rattle.rules.specs.Replay.{handsWaiter, handsChunk, hands, unsent}
 use Rattle.rules.specs.Step.{step}
@@ -21,10 +22,10 @@ use Rattle.rules.proofs.Tests.{and-no}
 use Rattle.rules.proofs.Lists.{cond-ind, choose-ind, unless-ind}
 use Rattle.rules.proofs.CalledInv.{BytesOK, CountOK, Called, bytes-cuts, bytes-holds, bytes-acks, satisfied-le, count-zero, count-on, count-ends, count-serves, count-new}
 
-module _ (limit capacity : ℕ) where
+module _ (low limit capacity : ℕ) where
   -- the invariant where `marks` says what the marks become with an accepted answer
   record Kept (marks : Answer → List Mark) (g : Notes) (res : Result) : Type 0 where
-    inv : Called limit capacity (res .session) (cond (accepted (res .answer)) (marks (res .answer)) (g .marks))
+    inv : Called low limit capacity (res .session) (cond (accepted (res .answer)) (marks (res .answer)) (g .marks))
         (cond (accepted (res .answer)) (g .completed + (shows (res .answer)) .completed) (g .completed))
 
   -- every call but flush and finalise leaves the marks
@@ -37,7 +38,7 @@ module _ (limit capacity : ℕ) where
   -- the session goes on, with k waiters completed by this call
   record Going (g : Notes) (k : ℕ) (s : Session) : Type 0 where
     going : isEnded (s .phase) ≡ false
-    inv : Called limit capacity s (g .marks) (g .completed + k)
+    inv : Called low limit capacity s (g .marks) (g .completed + k)
 
   -- ---- from such a session on
 
@@ -82,31 +83,39 @@ module _ (limit capacity : ℕ) where
     unfolding takes
     takes-kept none f last h = h 0 s i 0
     takes-kept (some n) f last h =
-        let z : g .completed + 0 + satisfied n f (waiters s) ≡ g .completed + satisfied n f (waiters s) = omega arith in
-        let j : Going g (satisfied n f (waiters s)) (setWorker (absorbs n f (s .worker)) s)
-        = record {
+        choose-ind (Same g) _ _ _ (λ _. ending-kept g 0 s i _ 0)
+        (λ d. choose-ind (Same g) _ _ _ (λ _. ending-kept g 0 s i _ 0)
+        (λ e. choose-ind (Same g) _ _ _ (λ _. ending-kept g _ _ (absorbed d e) _ _) (λ _. h _ _ (absorbed d e) _)))
+      where
+        z : g .completed + 0 + satisfied n f (waiters s) ≡ g .completed + satisfied n f (waiters s)
+        z = omega arith
+
+        absorbed : ltZ n (s .worker .persistedSize) ≡ false → aboveEnd n s ≡ false
+            → Going g (satisfied n f (waiters s)) (setWorker (absorbs n f (s .worker)) s)
+        absorbed d e = record {
           going = i .going;
           inv = record {
-            bytes = bytes-acks n (i .inv .bytes);
+            bytes = bytes-acks n d e (i .inv .bytes);
             count = subst (λ (m : ℕ). CountOK (s .writer .made) (drop (satisfied n f (waiters s)) (waiters s)) (isEnded (s .phase)) (g .marks) m) z
                 (count-serves (satisfied n f (waiters s)) (satisfied-le n f (waiters s)) (i .going) (i .inv .count));
           };
-        } in
-        choose-ind (Same g) _ _ _ (λ _. ending-kept g 0 s i _ 0) (λ _. choose-ind (Same g) _ _ _ (λ _. ending-kept g _ _ j _ _) (λ _. h _ _ j _))
+        }
 
   -- ---- each call
 
-  module _ (s : Session) (g : Notes) (i : Called limit capacity s (g .marks) (g .completed)) where
+  module _ (s : Session) (g : Notes) (i : Called low limit capacity s (g .marks) (g .completed)) where
     below : full s ≡ false → length (bytesOf (chunks s)) < s .worker .replayBuffer .capacity
     unfolding full stored
     below e = leb-false _ _ e
 
     -- the session with another connector and mark, or as it is
-    goes : isEnded (s .phase) ≡ false → (w : Worker) → w .replayBuffer ≡ s .worker .replayBuffer → w .pendingRequests ≡ waiters s → Going g 0 (setWorker w s)
-    goes e w b p = record {
+    goes : isEnded (s .phase) ≡ false → (w : Worker) → w .replayBuffer ≡ s .worker .replayBuffer → w .persistedSize ≡ s .worker .persistedSize → w .pendingRequests ≡ waiters s
+        → Going g 0 (setWorker w s)
+    goes e w b n p = record {
       going = e;
       inv = record {
-        bytes = subst (λ (x : ReplayBuffer). BytesOK limit capacity (s .limit) (x .capacity) (s .writer .writeOffset) (s .writer .held) (x .queue)) (sym b) (i .bytes);
+        bytes = subst₂ (λ (x : ReplayBuffer) (z : ℤ). BytesOK low limit capacity (s .limit) (x .capacity) z (s .writer .writeOffset) (s .writer .held) (x .queue)) (sym b) (sym n)
+            (i .bytes);
         count = subst (λ (x : List PendingRequest). CountOK (s .writer .made) x (isEnded (s .phase)) (g .marks) (g .completed + 0)) (sym p) (count-zero (i .count));
       };
     }
@@ -144,7 +153,7 @@ module _ (limit capacity : ℕ) where
 
     hands-kept : (out : ℕ) → Same g (hands out s)
     unfolding hands
-    hands-kept out = unless-ind (Same g) s _ _ (refused-kept _) (λ h. chunk-kept g s (goes (h .0) (s .worker) refl refl) _ _)
+    hands-kept out = unless-ind (Same g) s _ _ (refused-kept _) (λ h. chunk-kept g s (goes (h .0) (s .worker) refl refl refl) _ _)
 
     closes-kept : Same g (closes s)
     unfolding closes
@@ -163,42 +172,42 @@ module _ (limit capacity : ℕ) where
 
     responds-kept : (m : Response) → Same g (responds m s)
     unfolding responds
-    responds-kept m = unless-ind (Same g) s _ _ (refused-kept _) (λ h. takes-kept g _ (goes (h .0) _ refl refl) _ _ lastStep (last-kept g))
+    responds-kept m = unless-ind (Same g) s _ _ (refused-kept _) (λ h. takes-kept g _ (goes (h .0) _ refl refl refl) _ _ lastStep (last-kept g))
 
     shakes-kept : (m : Response) → Same g (shakes m s)
     unfolding shakes
-    shakes-kept m = unless-ind (Same g) s _ _ (refused-kept _) (λ h. takes-kept g _ (goes (h .0) _ refl refl) _ _ toReplay (replay-kept g))
+    shakes-kept m = unless-ind (Same g) s _ _ (refused-kept _) (λ h. takes-kept g _ (goes (h .0) _ refl refl refl) _ _ toReplay (replay-kept g))
 
     breaks-kept : (b : Break) → Same g (breaks b s)
     unfolding breaks
     breaks-kept b =
         unless-ind (Same g) s _ _ (refused-kept _)
-        (λ h. choose-ind (Same g) _ _ _ (λ _. ending-kept g 0 s (goes (h .0) (s .worker) refl refl) _ 0)
-        (λ _. choose-ind (Same g) _ _ _ (λ _. ending-kept g 0 s (goes (h .0) (s .worker) refl refl) _ 0)
+        (λ h. choose-ind (Same g) _ _ _ (λ _. ending-kept g 0 s (goes (h .0) (s .worker) refl refl refl) _ 0)
+        (λ _. choose-ind (Same g) _ _ _ (λ _. ending-kept g 0 s (goes (h .0) (s .worker) refl refl refl) _ 0)
         (λ _. record { inv = record { bytes = i .bytes; count = count-zero (count-on (h .0) refl (i .count)) } })))
 
     judges-kept : (v : ℕ) → Same g (judges v s)
     unfolding judges
-    judges-kept v = unless-ind (Same g) s _ _ (refused-kept _) (λ h. ruled-kept g _ (goes (h .0) _ refl refl) _)
+    judges-kept v = unless-ind (Same g) s _ _ (refused-kept _) (λ h. ruled-kept g _ (goes (h .0) _ refl refl refl) _)
 
     fails-kept : (b : Break) (v : ℕ) → Same g (fails b v s)
     unfolding fails
-    fails-kept b v = unless-ind (Same g) s _ _ (refused-kept _) (λ h. ruled-kept g _ (goes (h .0) _ refl refl) _)
+    fails-kept b v = unless-ind (Same g) s _ _ (refused-kept _) (λ h. ruled-kept g _ (goes (h .0) _ refl refl refl) _)
 
   -- ---- every call
 
   -- a run with the invariant
   pub record CalledAt (r : Run) : Type 0 where
-    pub inv : Called limit capacity (r .session) (r .notes .marks) (r .notes .completed)
+    pub inv : Called low limit capacity (r .session) (r .notes .marks) (r .notes .completed)
 
   -- the notes of a call are the new ones where it is accepted, else the old
-  noted-at : (s : Session) (b : Bool) (new old : Notes) → Called limit capacity s (cond b (new .marks) (old .marks)) (cond b (new .completed) (old .completed))
+  noted-at : (s : Session) (b : Bool) (new old : Notes) → Called low limit capacity s (cond b (new .marks) (old .marks)) (cond b (new .completed) (old .completed))
       → CalledAt (record { session = s; notes = cond b new old })
   noted-at s true new old h = record { inv = h }
   noted-at s false new old h = record { inv = h }
 
   after-call : (c : Call) (res : Result) (r : Run)
-      → Called limit capacity (res .session) (cond (accepted (res .answer)) ((noted (brings c) (shows (res .answer)) (r .notes)) .marks) (r .notes .marks))
+      → Called low limit capacity (res .session) (cond (accepted (res .answer)) ((noted (brings c) (shows (res .answer)) (r .notes)) .marks) (r .notes .marks))
       (cond (accepted (res .answer)) ((noted (brings c) (shows (res .answer)) (r .notes)) .completed) (r .notes .completed))
       → CalledAt (called c res r)
   after-call c res r h = noted-at (res .session) (accepted (res .answer)) (noted (brings c) (shows (res .answer)) (r .notes)) (r .notes) h

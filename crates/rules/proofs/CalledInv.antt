@@ -1,5 +1,5 @@
 -- The invariant over calls alone, whatever they bring, in two parts, and what each change does to them.
-use mathlib.Core.Path.{_≡_, refl, ap, _∙_, subst}
+use mathlib.Core.Path.{_≡_, refl, sym, ap, _∙_, subst}
 use mathlib.Core.Bool.{Bool, true, false}
 use mathlib.Core.Option.{some}
 use mathlib.Core.List.{List, [], _∷_, _++_}
@@ -8,29 +8,26 @@ use native.Mathlib.Omega.{arith}
 use lib.ListN.{length, drop, getElem?, length-append, length-drop}
 use lib.IntN.{ℤ, pos, negsuc, natAbs, _+ℤ_, _-ℤ_}
 use lib.Signed.{leZ, ltZ}
-use borrow.Author.Tests.{leb-false, ltb-true}
+use borrow.Author.Tests.{ltb-false}
 use Rattle.crc32c.specs.Reg.{crcOf}
+use Rattle.rules.specs.Basics.{toℕ}
 use Rattle.rules.specs.Message.{Bytes}
 use Rattle.rules.specs.Session.{ReplayChunk, PendingRequest, Session, bytesOf, chunks, waiters, isEnded}
 use Rattle.rules.specs.Respond.{endOffset, trimmed, ack, isSatisfied, satisfied}
 use Rattle.rules.specs.Notes.{Mark}
 use Rattle.rules.proofs.Tests.{never, clash}
-use Rattle.rules.proofs.Lists.{cond-ind, Chain, chain-snoc, bytes-snoc, abs-sub}
+use Rattle.rules.proofs.Lists.{cond-ind, Chain, chain-snoc, bytes-snoc, ack-chain}
 
 -- ---- the invariant
 
--- the chunks lie end to end up to the offset `at`
-pub record Line (cs : List ReplayChunk) (at : ℕ) : Type 0 where
-  pub first : ℕ
-  pub chain : Chain first cs at
-
--- limit and capacity: C and the capacity at the opening
-pub record BytesOK (limit capacity l c : ℕ) (offset : ℤ) (held : Bytes) (cs : List ReplayChunk) : Type 0 where
+-- low, limit and capacity: P, C and the capacity at the opening; p: P now. The chunks lie end to end from P up to the write offset.
+pub record BytesOK (low limit capacity l c : ℕ) (p offset : ℤ) (held : Bytes) (cs : List ReplayChunk) : Type 0 where
   pub limit-is : l ≡ limit
   pub capacity-is : c ≡ capacity
   pub at : ℕ
   pub offset-is : offset ≡ pos at
-  pub line : Line cs at
+  pub low-is : low ≤ toℕ p
+  pub chain : Chain (toℕ p) cs at
   pub fewer : length (bytesOf cs) < capacity + limit
   pub small : length held < limit
 
@@ -46,8 +43,8 @@ pub record CountOK (made : ℕ) (ws : List PendingRequest) (over : Bool) (marks 
   pub count-is : over ≡ false → completed + length ws ≡ length marks
   pub none-left : over ≡ true → ws ≡ []
 
-pub record Called (limit capacity : ℕ) (s : Session) (marks : List Mark) (completed : ℕ) : Type 0 where
-  pub bytes : BytesOK limit capacity (s .limit) (s .worker .replayBuffer .capacity) (s .writer .writeOffset) (s .writer .held) (chunks s)
+pub record Called (low limit capacity : ℕ) (s : Session) (marks : List Mark) (completed : ℕ) : Type 0 where
+  pub bytes : BytesOK low limit capacity (s .limit) (s .worker .replayBuffer .capacity) (s .worker .persistedSize) (s .writer .writeOffset) (s .writer .held) (chunks s)
   pub count : CountOK (s .writer .made) (waiters s) (isEnded (s .phase)) marks completed
 
 -- ---- the bytes
@@ -73,31 +70,33 @@ ack-shorter n (c ∷ cs) =
     same : Q (c ∷ cs)
     same = omega arith
 
--- nor does it move their end
-pub ack-line : (n : ℤ) (cs : List ReplayChunk) (a b : ℕ) → Chain a cs b → Line (ack n cs) b
+-- one below 0 leaves all
+pub ack-negative : (cs : List ReplayChunk) (a b m : ℕ) → Chain a cs b → ack (negsuc m) cs ≡ cs
 unfolding ack
-ack-line n [] a b h = record { first = a; chain = h }
-ack-line n (c ∷ cs) a b h =
-    cond-ind Q (leZ (endOffset c) n) (λ _. ack-line n cs (a + length (c .bytes)) b (h .2))
-    (λ e. cond-ind Q (ltZ (c .writeOffset) n) (cut n e) (λ _. record { first = a; chain = h }))
+ack-negative [] a b m h = refl
+ack-negative (c ∷ cs) a b m h =
+    cond-ind Q _ (λ e. clash e (ap (λ (z : ℤ). leZ (z +ℤ pos (length (c .bytes))) (negsuc m)) (h .0)))
+    (λ _. cond-ind Q _ (λ e. clash e (ap (λ (z : ℤ). ltZ z (negsuc m)) (h .0))) (λ _. refl))
   where
     Q : List ReplayChunk → Type 0
-    Q x = Line x b
+    Q x = x ≡ c ∷ cs
 
-    cut : (n : ℤ) → leZ (endOffset c) n ≡ false → ltZ (c .writeOffset) n ≡ true → Line (trimmed n c ∷ cs) b
-    cut (pos m) e f =
-        let l : a < m = ltb-true a m (subst (λ (z : ℤ). ltZ z (pos m) ≡ true) (h .0) f) in
-        let k : m < a + length (c .bytes) = leb-false (a + length (c .bytes)) m (subst (λ (z : ℤ). leZ (z +ℤ pos (length (c .bytes))) (pos m) ≡ false) (h .0) e) in
-        let d : natAbs (pos m -ℤ c .writeOffset) ≡ m - a = ap (λ (z : ℤ). natAbs (pos m -ℤ z)) (h .0) ∙ abs-sub a m (omega arith) in
-        let g : length (drop (natAbs (pos m -ℤ c .writeOffset)) (c .bytes)) ≡ length (c .bytes) - natAbs (pos m -ℤ c .writeOffset) = length-drop _ (c .bytes) in
-        let q : a + length (c .bytes) ≡ m + length (drop (natAbs (pos m -ℤ c .writeOffset)) (c .bytes)) = omega arith in
-        record { first = m; chain = (refl, refl, subst (λ (x : ℕ). Chain x cs b) q (h .2)) }
-    cut (negsuc m) e f = clash f (ap (λ (z : ℤ). ltZ z (negsuc m)) (h .0))
+pub chain-length : (cs : List ReplayChunk) (a b : ℕ) → Chain a cs b → a + length (bytesOf cs) ≡ b
+chain-length [] a b h = omega arith
+chain-length (c ∷ cs) a b h = omega (arith, chain-length cs (a + length (c .bytes)) b (h .2), length-append (c .bytes) (bytesOf cs))
 
-module _ {limit capacity l c : ℕ} {offset : ℤ} {held : Bytes} {cs : List ReplayChunk} where
+not-above : (p : ℤ) (n : ℕ) → ltZ (pos n) p ≡ false → toℕ p ≤ n
+not-above (pos a) n e = ltb-false n a e
+not-above (negsuc a) n e = omega arith
+
+not-negative : (p : ℤ) (n : ℕ) → ltZ (negsuc n) p ≡ false → toℕ p ≡ 0
+not-negative (pos a) n e = never e
+not-negative (negsuc a) n e = refl
+
+module _ {low limit capacity l c : ℕ} {p offset : ℤ} {held : Bytes} {cs : List ReplayChunk} where
   -- a cut, made only where stored is below capacity, adds at most C bytes
-  pub bytes-cuts : (x : Bytes) → length (bytesOf cs) < c → length x ≤ limit → BytesOK limit capacity l c offset held cs
-      → BytesOK limit capacity l c (offset +ℤ pos (length x)) [] (cs ++ (record { writeOffset = offset; bytes = x; crc32c = crcOf x } ∷ []))
+  pub bytes-cuts : (x : Bytes) → length (bytesOf cs) < c → length x ≤ limit → BytesOK low limit capacity l c p offset held cs
+      → BytesOK low limit capacity l c p (offset +ℤ pos (length x)) [] (cs ++ (record { writeOffset = offset; bytes = x; crc32c = crcOf x } ∷ []))
   bytes-cuts x f m h =
       let new : ReplayChunk = record { writeOffset = offset; bytes = x; crc32c = crcOf x } in
       let e : length (bytesOf (cs ++ (new ∷ []))) ≡ length (bytesOf cs) + length x = ap length (bytes-snoc cs new) ∙ length-append (bytesOf cs) x in
@@ -108,34 +107,52 @@ module _ {limit capacity l c : ℕ} {offset : ℤ} {held : Bytes} {cs : List Rep
         capacity-is = k;
         at = h .at + length x;
         offset-is = ap (λ (z : ℤ). z +ℤ pos (length x)) (h .offset-is);
-        line = record { first = h .line .first; chain = chain-snoc cs (h .line .first) (h .at) new (h .line .chain) (h .offset-is) refl };
+        low-is = h .low-is;
+        chain = chain-snoc cs (toℕ p) (h .at) new (h .chain) (h .offset-is) refl;
         fewer = omega arith;
         small = omega arith;
       }
 
-  pub bytes-holds : (x : Bytes) → length x < l → BytesOK limit capacity l c offset held cs → BytesOK limit capacity l c offset x cs
+  pub bytes-holds : (x : Bytes) → length x < l → BytesOK low limit capacity l c p offset held cs → BytesOK low limit capacity l c p offset x cs
   bytes-holds x m h = record {
     limit-is = h .limit-is;
     capacity-is = h .capacity-is;
     at = h .at;
     offset-is = h .offset-is;
-    line = h .line;
+    low-is = h .low-is;
+    chain = h .chain;
     fewer = h .fewer;
     small = omega (arith, h .limit-is);
   }
 
-  pub bytes-acks : (n : ℤ) → BytesOK limit capacity l c offset held cs → BytesOK limit capacity l c offset held (ack n cs)
-  bytes-acks n h =
+  -- chunks that lie from the size n on
+  acked : (n : ℤ) (cs′ : List ReplayChunk) (h : BytesOK low limit capacity l c p offset held cs) → toℕ p ≤ toℕ n → Chain (toℕ n) cs′ (h .at)
+      → BytesOK low limit capacity l c n offset held cs′
+  acked n cs′ h up k =
       let f : length (bytesOf cs) < capacity + limit = h .fewer in
+      let e : low ≤ toℕ p = h .low-is in
       record {
         limit-is = h .limit-is;
         capacity-is = h .capacity-is;
         at = h .at;
         offset-is = h .offset-is;
-        line = ack-line n cs (h .line .first) (h .at) (h .line .chain);
-        fewer = omega (arith, ack-shorter n cs);
+        low-is = omega arith;
+        chain = k;
+        fewer = omega (arith, chain-length cs (toℕ p) (h .at) (h .chain), chain-length cs′ (toℕ n) (h .at) k);
         small = h .small;
       }
+
+  -- a size that is neither below P nor above the write offset
+  pub bytes-acks : (n : ℤ) → ltZ n p ≡ false → ltZ offset n ≡ false → BytesOK low limit capacity l c p offset held cs
+      → BytesOK low limit capacity l c n offset held (ack n cs)
+  bytes-acks (pos n) e f h =
+      let up : toℕ p ≤ n = not-above p n e in
+      let in-it : n ≤ h .at = ltb-false (h .at) n (subst (λ (z : ℤ). ltZ z (pos n) ≡ false) (h .offset-is) f) in
+      acked (pos n) (ack (pos n) cs) h up ((ack-chain cs (toℕ p) n (h .at) (h .chain) up in-it) .chain)
+  bytes-acks (negsuc n) e f h =
+      let z : toℕ p ≡ 0 = not-negative p n e in
+      acked (negsuc n) (ack (negsuc n) cs) h (omega arith)
+      (subst (λ (x : List ReplayChunk). Chain 0 x (h .at)) (sym (ack-negative cs (toℕ p) (h .at) n (h .chain))) (subst (λ (a : ℕ). Chain a cs (h .at)) z (h .chain)))
 
 -- ---- the count
 

@@ -8,8 +8,10 @@ use native.Mathlib.Omega.{arith}
 use lib.ListN.{length}
 use lib.IntN.{ℤ, pos, negsuc, _+ℤ_}
 use lib.Dec.{leb, ltb}
-use borrow.Author.Tests.{leb-true, leb-false}
+use lib.Signed.{leZ}
+use borrow.Author.Tests.{leb-true, leb-false, le-leb}
 use Rattle.crc32c.specs.Reg.{crcOf}
+use Rattle.rules.specs.Basics.{toℕ, All}
 use Rattle.rules.specs.Message.{Bytes}
 use Rattle.rules.specs.Session.{ReplayChunk, Session, Call, bytesOf, chunks, isNil}
 use Rattle.rules.specs.Respond.{trimmed, ack, pushedEnd}
@@ -17,27 +19,22 @@ use Rattle.rules.specs.Opening.{Opening, opened, opens, openSize, larger
 use Rattle.rules.specs.Server.{Stored}
 use Rattle.rules.specs.World.{Event, runs, notesAt, start}
 use Rattle.rules.specs.Demand3.{Numbered}
-use Rattle.rules.specs.Basics.{All}
 use Rattle.rules.specs.Calls.{Run, calledAll, begin, EndToEnd, HoldsCalled, CallsHold}
 use Rattle.rules.proofs.Tests.{never}
-use Rattle.rules.proofs.Lists.{cond-ind, Chain}
+use Rattle.rules.proofs.Lists.{cond-ind, Chain, ack-chain}
 use Rattle.rules.proofs.Accepted.{Accepted, accepted}
-use Rattle.rules.proofs.CalledInv.{Line, ack-shorter, ack-line, numbers-get}
+use Rattle.rules.proofs.CalledInv.{ack-shorter, ack-negative, chain-length, numbers-get}
 use Rattle.rules.proofs.Called.{CalledAt, step-kept}
 use Rattle.rules.proofs.Runs.{runOf, calls-kept, runs-kept}
 
 -- ---- at the opening
 
-abbrev offsetOf : ℤ → ℕ → ℕ
-offsetOf (pos a) n = max a n
-offsetOf (negsuc a) n = n
-
-larger-is : (p : ℤ) (n : ℕ) → larger p (pos n) ≡ pos (offsetOf p n)
+pub larger-is : (p : ℤ) (n : ℕ) → larger p (pos n) ≡ pos (max (toℕ p) n)
 larger-is (pos a) n =
     cond-ind (λ (z : ℤ). z ≡ pos (max a n)) (leb a n)
     (λ e. let l : a ≤ n = leb-true a n e in let q : n ≡ max a n = omega arith in ap pos q)
     (λ e. let l : n < a = leb-false a n e in let q : a ≡ max a n = omega arith in ap pos q)
-larger-is (negsuc a) n = refl
+larger-is (negsuc a) n = let q : n ≡ max 0 n = omega arith in ap pos q
 
 abbrev payloadChunk : Bytes → ReplayChunk
 payloadChunk b = record { writeOffset = pos 0; bytes = b; crc32c = crcOf b }
@@ -47,15 +44,18 @@ unfolding ack
 ack-all b a e = ap (λ (t : Bool). cond t [] (cond (ltb 0 a) (trimmed (pos a) (payloadChunk b) ∷ []) (payloadChunk b ∷ []))) e
 
 -- a payload's chunk is acknowledged whole, or the write offset is the payload's end
-open-line : (payload : Option Bytes) (p : ℤ) → Line (openChunks payload p) (offsetOf p (payloadLength payload))
-open-line none p = record { first = offsetOf p 0; chain = refl }
-open-line (some b) (pos a) =
-    cond-ind (λ (_ : ℕ). Line (openChunks (some b) (pos a)) (max a (length b))) (leb (0 + length b) a)
+open-chain : (payload : Option Bytes) (p : ℤ) → Chain (toℕ p) (openChunks payload p) (max (toℕ p) (payloadLength payload))
+open-chain none p = omega arith
+open-chain (some b) (pos a) =
+    cond-ind (λ (_ : ℕ). Chain a (openChunks (some b) (pos a)) (max a (length b))) (leb (0 + length b) a)
     {x = 0} {y = 0}
-    (λ e. subst (λ (cs : List ReplayChunk). Line cs (max a (length b))) (sym (ack-all b a e)) (record { first = max a (length b); chain = refl }))
+    (λ e. let l : 0 + length b ≤ a = leb-true (0 + length b) a e in let q : a ≡ max a (length b) = omega arith in
+    subst (λ (cs : List ReplayChunk). Chain a cs (max a (length b))) (sym (ack-all b a e)) q)
     (λ e. let l : a < 0 + length b = leb-false (0 + length b) a e in let q : length b ≡ max a (length b) = omega arith in
-    subst (Line (openChunks (some b) (pos a))) q (ack-line (pos a) (payloadChunk b ∷ []) 0 (length b) (refl, refl, omega arith)))
-open-line (some b) (negsuc a) = ack-line (negsuc a) (payloadChunk b ∷ []) 0 (length b) (refl, refl, omega arith)
+    subst (Chain a (openChunks (some b) (pos a))) q ((ack-chain (payloadChunk b ∷ []) 0 a (length b) (refl, refl, omega arith) (omega arith) (omega arith)) .chain))
+open-chain (some b) (negsuc a) =
+    let c : List ReplayChunk = payloadChunk b ∷ [] in
+    subst (λ (cs : List ReplayChunk). Chain 0 cs (max 0 (length b))) (sym (ack-negative c 0 (length b) a (refl, refl, omega arith))) (refl, refl, omega arith)
 
 pub open-stored : (payload : Option Bytes) (p : ℤ) → length (bytesOf (openChunks payload p)) ≤ payloadLength payload
 open-stored none p = omega arith
@@ -65,21 +65,22 @@ open-stored (some b) p =
 
 -- whatever the base that the notes begin with
 opening-called : (o : Opening) (s : Session) (base : Bytes) → opens o ≡ opened s
-    → CalledAt (s .limit) (s .worker .replayBuffer .capacity) (record { session = s; notes = notesAt o base })
+    → CalledAt (toℕ (openSize o)) (s .limit) (s .worker .replayBuffer .capacity) (record { session = s; notes = notesAt o base })
 unfolding openSession
 opening-called o s base a =
     let h : Accepted o s = accepted o s a in
     let l : 0 < o .limit = h .positive in
     let m : payloadLength (o .payload) ≤ o .limit = h .payload-most in
-    subst (λ (t : Session). CalledAt (t .limit) (t .worker .replayBuffer .capacity) (record { session = t; notes = notesAt o base })) (h .is)
+    subst (λ (t : Session). CalledAt (toℕ (openSize o)) (t .limit) (t .worker .replayBuffer .capacity) (record { session = t; notes = notesAt o base })) (h .is)
     (record {
       inv = record {
         bytes = record {
           limit-is = refl;
           capacity-is = refl;
-          at = offsetOf (openSize o) (payloadLength (o .payload));
+          at = max (toℕ (openSize o)) (payloadLength (o .payload));
           offset-is = larger-is (openSize o) (payloadLength (o .payload));
-          line = open-line (o .payload) (openSize o);
+          low-is = omega arith;
+          chain = open-chain (o .payload) (openSize o);
           fewer = omega (arith, open-stored (o .payload) (openSize o));
           small = l;
         };
@@ -89,9 +90,9 @@ opening-called o s base a =
 
 -- ---- after every list of calls
 
-pub always-called : (o : Opening) (s : Session) → opens o ≡ opened s → (cs : List Call) → CalledAt (s .limit) (s .worker .replayBuffer .capacity) (calledAll cs (begin o s))
+pub always-called : (o : Opening) (s : Session) → opens o ≡ opened s → (cs : List Call) → CalledAt (toℕ (openSize o)) (s .limit) (s .worker .replayBuffer .capacity) (calledAll cs (begin o s))
 unfolding begin
-always-called o s a cs = calls-kept (CalledAt (s .limit) (s .worker .replayBuffer .capacity)) (step-kept _ _) cs (begin o s) (opening-called o s _ a)
+always-called o s a cs = calls-kept (CalledAt (toℕ (openSize o)) (s .limit) (s .worker .replayBuffer .capacity)) (step-kept _ _ _) cs (begin o s) (opening-called o s _ a)
 
 ends-meet : (cs : List ReplayChunk) (a b : ℕ) → Chain a cs b → EndToEnd cs
 ends-meet [] a b h = tt
@@ -111,16 +112,22 @@ end-any : (cs : List ReplayChunk) (y z : ℤ) → isNil cs ≡ false → pushedE
 end-any [] y z e = never e
 end-any (c ∷ cs) y z e = refl
 
-numbered-called : {limit capacity : ℕ} (r : Run) → CalledAt limit capacity r → Numbered (r .session) (r .notes)
+below-end : (p offset : ℤ) (at : ℕ) → toℕ p ≤ at → offset ≡ pos at → leZ p offset ≡ true
+below-end (pos n) offset at l e = ap (leZ (pos n)) e ∙ le-leb n at l
+below-end (negsuc n) offset at l e = ap (leZ (negsuc n)) e
+
+numbered-called : {low limit capacity : ℕ} (r : Run) → CalledAt low limit capacity r → Numbered (r .session) (r .notes)
 numbered-called r i = record { made-is = i .inv .count .made-is; told = λ n m e. omega (arith, numbers-get (r .notes .marks) 0 n m (i .inv .count .numbers) e) }
 
-holds-called : {limit capacity : ℕ} (r : Run) → CalledAt limit capacity r → HoldsCalled r
+holds-called : {low limit capacity : ℕ} (r : Run) → CalledAt low limit capacity r → HoldsCalled r
 holds-called r i =
     let m : r .session .writer .made ≡ length (r .notes .marks) = i .inv .count .made-is in
     record {
-      end-to-end = ends-meet (chunks (r .session)) _ _ (i .inv .bytes .line .chain);
-      sums = chain-sums (chunks (r .session)) _ _ (i .inv .bytes .line .chain);
-      pushed-end = λ e. end-any (chunks (r .session)) _ _ e ∙ chain-end (chunks (r .session)) _ _ (i .inv .bytes .line .chain) ∙ sym (i .inv .bytes .offset-is);
+      end-to-end = ends-meet (chunks (r .session)) _ _ (i .inv .bytes .chain);
+      sums = chain-sums (chunks (r .session)) _ _ (i .inv .bytes .chain);
+      pushed-end = λ e. end-any (chunks (r .session)) _ _ e ∙ chain-end (chunks (r .session)) _ _ (i .inv .bytes .chain) ∙ sym (i .inv .bytes .offset-is);
+      within = below-end (r .session .worker .persistedSize) (r .session .writer .writeOffset) (i .inv .bytes .at)
+          (omega (arith, chain-length (chunks (r .session)) _ _ (i .inv .bytes .chain))) (i .inv .bytes .offset-is);
       held-below = omega (arith, i .inv .bytes .small, i .inv .bytes .limit-is);
       numbered = numbered-called r i;
       completed-made = omega (arith, i .inv .count .at-most);
@@ -138,4 +145,4 @@ pub numbered-runs : (o : Opening) (s : Session) → opens o ≡ opened s → (k 
 unfolding start
 numbered-runs o s a k es =
     numbered-called (runOf (runs es (start o s k)))
-    (runs-kept (CalledAt (s .limit) (s .worker .replayBuffer .capacity)) (step-kept _ _) es (start o s k) (opening-called o s _ a))
+    (runs-kept (CalledAt (toℕ (openSize o)) (s .limit) (s .worker .replayBuffer .capacity)) (step-kept _ _ _) es (start o s k) (opening-called o s _ a))

@@ -14,7 +14,7 @@ use Rattle.rules.specs.Step.{step}
 use Rattle.rules.specs.Notes.{shows, plain, noted}
 use Rattle.rules.specs.World.{World}
 use Rattle.rules.proofs.Lists.{cond-ind, choose-ind, unless-ind}
-use Rattle.rules.proofs.Inv.{isRegress, isRegressed, Inv}
+use Rattle.rules.proofs.Inv.{isBySize, endedBySize, Inv}
 use Rattle.rules.proofs.Server.{handed-none, server-loses}
 use Rattle.rules.proofs.Flow.{flow-off, flow-ended, flow-loses}
 use Rattle.rules.proofs.Wait.{wait-end, wait-phase, wait-zero}
@@ -23,7 +23,7 @@ use Rattle.rules.proofs.After.{Other, Unsent, not-at, open-not-replay, 
 
 -- the session goes on in another phase, neither of them a replay
 quiet : {from : ℕ} {w : World} (ph : Phase) (mark : Bool) (c : Connector) → isEnded (w .session .phase) ≡ false → isReplay (w .session .phase) ≡ false
-    → isReplay ph ≡ false → isRegressed ph ≡ false → Inv from w
+    → isReplay ph ≡ false → endedBySize ph ≡ false → Inv from w
     → Inv from (record { session = setPhase ph nothing (setWorker (setConnector c (setMark mark (w .session .worker))) (w .session)); server = w .server; notes = noted plain (shows ok) (w .notes) })
 quiet {w} ph mark c e f g h i = record {
   K = i .K;
@@ -39,7 +39,7 @@ quiet {w} ph mark c e f g h i = record {
 }
 
 -- the session ends
-quiet-ends : {from : ℕ} (could : Bool) (w : World) (cause : Cause) (c : Connector) → isRegress cause ≡ false → Inv from w
+quiet-ends : {from : ℕ} (could : Bool) (w : World) (cause : Cause) (c : Connector) → isBySize cause ≡ false → Inv from w
     → Other from could w (ending cause 0 0 (setWorker (setConnector c (w .session .worker)) (w .session)))
 unfolding ending
 quiet-ends could w cause c h i = record {
@@ -86,11 +86,11 @@ unsent-keeps {from} could w i =
 
 -- ---- verdicts
 
-abbrev Steady : Option Cause → Type 0
+abbrev pub Steady : Option Cause → Type 0
 Steady none = Unit {0}
-Steady (some c) = isRegress c ≡ false
+Steady (some c) = isBySize c ≡ false
 
-ruling-steady : (redirect : Bool) (followed v : ℕ) → Steady (ruling redirect followed v)
+pub ruling-steady : (redirect : Bool) (followed v : ℕ) → Steady (ruling redirect followed v)
 ruling-steady redirect followed v =
     cond-ind Steady (eqb v 4) (λ _. refl)
     (λ _. cond-ind Steady (redirect && ltb followed maxRedirects) (λ _. tt)
@@ -119,8 +119,8 @@ failed-keeps {from} b v could w i =
 
 -- ---- a break
 
-ends-steady : (b : Bool) → isRegress (cond b finished streamError) ≡ false
-ends-steady b = cond-ind (λ (c : Cause). isRegress c ≡ false) b (λ _. refl) (λ _. refl)
+pub ends-steady : (b : Bool) → isBySize (cond b finished streamError) ≡ false
+ends-steady b = cond-ind (λ (c : Cause). isBySize c ≡ false) b (λ _. refl) (λ _. refl)
 
 pub break-keeps : {from : ℕ} (b : Break) (could : Bool) (w : World) → Inv from w → Inv from (calls (break b) could w)
 unfolding step breaks

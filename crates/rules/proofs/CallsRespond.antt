@@ -11,14 +11,14 @@ use lib.Signed.{ltZ}
 use borrow.Author.Tests.{ltb-true}
 use Rattle.rules.specs.Message.{Bytes, Response, sizeOf}
 use Rattle.rules.specs.Session.{Connector, alreadyFinalized, replay, Session, Call, handshake, Result, setConnector, setMark, setWorker, isReplay, isEnded, chunks, waiters, ending}
-use Rattle.rules.specs.Respond.{ack, satisfied, absorbs, takes, bareRequest, lastStep, responds, toReplay, shakes}
+use Rattle.rules.specs.Respond.{ack, satisfied, absorbs, aboveEnd, takes, bareRequest, lastStep, responds, toReplay, shakes}
 use Rattle.rules.specs.Step.{step}
 use Rattle.rules.specs.Server.{setMessages, onLink, connects, Told, alone, inResource, says}
 use Rattle.rules.specs.Notes.{shows, accepted, requestIn, Brings, largestOf, noted}
 use Rattle.rules.specs.World.{World, sending, handsOn}
 use Rattle.rules.proofs.Tests.{never, and-right}
 use Rattle.rules.proofs.Lists.{cond-ind, choose-ind, unless-ind}
-use Rattle.rules.proofs.Inv.{AtLeast, least, Ascends, stockOf, BufferOK, WaitOK, ServerOK, FlowOK, HandedOK, isRegressed, Inv}
+use Rattle.rules.proofs.Inv.{AtLeast, least, Ascends, stockOf, BufferOK, WaitOK, ServerOK, FlowOK, HandedOK, endedBySize, Inv}
 use Rattle.rules.proofs.Server.{ascends-le, ascends-tail, right-bare, handed-none, handed-one, server-sends, server-messages, server-connects, server-below, server-within}
 use Rattle.rules.proofs.Flow.{fit-bare, dataless-adds, goal-off, flow-off, flow-ended, flow-sends, flow-messages, flow-connects, flow-refused}
 use Rattle.rules.proofs.Wait.{wait-end, wait-phase, wait-zero, wait-serves}
@@ -50,19 +50,24 @@ record Greeted (from : ℕ) (o : Option ℤ) (w : World) (r : Result) : Type 0 w
 abbrev updatedTo : Connector → Session → Session
 updatedTo c s = setWorker (setConnector c (setMark false (s .worker))) s
 
--- ---- a size that is not below P
+-- ---- a size that is neither below P nor past the end
 
 takes-ind : (Q : Result → Type 0) (n : ℤ) (f : Bool) (s : Session) (last : ℕ → ℕ → Session → Result) → (ltZ n (s .worker .persistedSize) ≡ true → ⊥)
+    → (aboveEnd n s ≡ true → ⊥)
     → ((released : ℕ) → Q (ending alreadyFinalized (satisfied n f (waiters s)) released (setWorker (absorbs n f (s .worker)) s)))
     → ((released : ℕ) → Q (last (satisfied n f (waiters s)) released (setWorker (absorbs n f (s .worker)) s)))
     → Q (takes (some n) f s last)
 unfolding takes
-takes-ind Q n f s last l a b = choose-ind Q _ _ _ (λ e. absurd (l e)) (λ _. choose-ind Q _ _ _ (λ _. a _) (λ _. b _))
+takes-ind Q n f s last l m a b =
+    choose-ind Q _ _ _ (λ e. absurd (l e)) (λ _. choose-ind Q _ _ _ (λ e. absurd (m e)) (λ _. choose-ind Q _ _ _ (λ _. a _) (λ _. b _)))
 
 -- for a message and a handshake alike: the size n, in a finalised statement or not
 module _ {from : ℕ} (w : World) (i : Inv from w) (n : ℕ) (f : Bool) (up : i .p ≤ n) (within : n ≤ length (i .K)) (true-final : f ≡ true → w .server .stored .finalised ≡ true) where
   not-below : ltZ (pos n) (w .session .worker .persistedSize) ≡ true → ⊥
   not-below e = omega (arith, ltb-true n (i .p) (subst (λ (z : ℤ). ltZ (pos n) z ≡ true) (i .buffer .p-is) e))
+
+  not-past : aboveEnd (pos n) (w .session) ≡ true → ⊥
+  not-past e = omega (arith, ltb-true (length (i .K)) n (subst (λ (z : ℤ). ltZ z (pos n) ≡ true) (i .buffer .offset-is) e))
 
   since-is : from ≤ n
   since-is = omega (arith, i .since)
@@ -75,7 +80,7 @@ module _ {from : ℕ} (w : World) (i : Inv from w) (n : ℕ) (f : Bool) (up : i 
       → Greeted from (some (pos n)) w (takes (some (pos n)) f (updatedTo c (w .session)) toReplay)
   unfolding ending toReplay
   greet-keeps c size e =
-      takes-ind (Greeted from (some (pos n)) w) (pos n) f _ toReplay not-below
+      takes-ind (Greeted from (some (pos n)) w) (pos n) f _ toReplay not-below not-past
       (λ _. record {
         inv = record {
           K = i .K;
@@ -142,7 +147,7 @@ module _ {from : ℕ} (kept rest : List Response) (could keep : Bool) (w : World
       → ServerOK K p (s .worker .finalized) (onLink (setMessages (cond (keep && false) kept rest)) (w .server))
       → FlowOK K p (s .phase) (chunks s) (onLink (setMessages (cond (keep && false) kept rest)) (w .server))
       → HandedOK K (s .worker .finalized) (w .notes .handed)
-      → isReplay (s .phase) ≡ false → isEnded (s .phase) ≡ false → isRegressed (s .phase) ≡ false
+      → isReplay (s .phase) ≡ false → isEnded (s .phase) ≡ false → endedBySize (s .phase) ≡ false
       → Stated from o kept rest could keep w (lastStep k released s)
   unfolding lastStep
   last-keeps o k released s K p from-p b q v fl hd r e st =
@@ -191,7 +196,7 @@ module _ {from : ℕ} (kept rest : List Response) (could keep : Bool) (w : World
       → Stated from (some (pos n)) kept rest could keep w (takes (some (pos n)) f (updatedTo c (w .session)) lastStep)
   unfolding ending
   size-keeps i n f c l t h r e =
-      takes-ind (Stated from (some (pos n)) kept rest could keep w) (pos n) f (updatedTo c (w .session)) lastStep (not-below w i n f l within t)
+      takes-ind (Stated from (some (pos n)) kept rest could keep w) (pos n) f (updatedTo c (w .session)) lastStep (not-below w i n f l within t) (not-past w i n f l within t)
       (λ _. record {
         inv = record {
           K = i .K;

@@ -5,4 +5,5 @@ pub mod Points
 pub mod Refusals
 pub mod Cases
 pub mod Releases
+pub mod Past
 pub mod Scenarios

@@ -9,7 +9,7 @@ use lib.IntN.{ℤ, pos, negsuc}
 use Rattle.crc32c.specs.Reg.{crcOf}
 use Rattle.rules.specs.Basics.{All}
 use Rattle.rules.specs.Message.{Bytes, ChecksummedData, Request, Response, sizeOf, isFinalized}
-use Rattle.rules.specs.Session.{ReplayChunk, finalizing, PendingRequest, Cause, finished, regressed, alreadyFinalized, permanent, exhausted, givenUp, streamError, Phase, live, closing, connecting, verdict, replay, ended, Session, bytesOf, chunks, waiters, isEnded, isReplay}
+use Rattle.rules.specs.Session.{ReplayChunk, finalizing, PendingRequest, Cause, finished, regressed, beyond, alreadyFinalized, permanent, exhausted, givenUp, streamError, Phase, live, closing, connecting, verdict, replay, ended, Session, bytesOf, chunks, waiters, isEnded, isReplay}
 use Rattle.rules.specs.Replay.{place}
 use Rattle.rules.specs.Server.{Server}
 use Rattle.rules.specs.Notes.{Mark, Notes, contentOf}
@@ -174,22 +174,24 @@ pub record FlowOK (K : Bytes) (p : ℕ) (ph : Phase) (cs : List ReplayChunk) (v 
 
 -- ---- the whole
 
-abbrev pub isRegress : Cause → Bool
-isRegress finished = false
-isRegress regressed = true
-isRegress alreadyFinalized = false
-isRegress permanent = false
-isRegress exhausted = false
-isRegress givenUp = false
-isRegress streamError = false
+-- by a size that goes back, or past the end
+abbrev pub isBySize : Cause → Bool
+isBySize finished = false
+isBySize regressed = true
+isBySize beyond = true
+isBySize alreadyFinalized = false
+isBySize permanent = false
+isBySize exhausted = false
+isBySize givenUp = false
+isBySize streamError = false
 
-abbrev pub isRegressed : Phase → Bool
-isRegressed live = false
-isRegressed closing = false
-isRegressed connecting = false
-isRegressed (verdict r) = false
-isRegressed (replay i) = false
-isRegressed (ended c) = isRegress c
+abbrev pub endedBySize : Phase → Bool
+endedBySize live = false
+endedBySize closing = false
+endedBySize connecting = false
+endedBySize (verdict r) = false
+endedBySize (replay i) = false
+endedBySize (ended c) = isBySize c
 
 -- from: the offset of the first byte taken since opening, or 0
 pub record Inv (from : ℕ) (w : World) : Type 0 where
@@ -202,4 +204,4 @@ pub record Inv (from : ℕ) (w : World) : Type 0 where
   pub server : ServerOK K p (w .session .worker .finalized) (w .server)
   pub flow : FlowOK K p (w .session .phase) (chunks (w .session)) (w .server)
   pub handed : HandedOK K (w .session .worker .finalized) (w .notes .handed)
-  pub steady : isRegressed (w .session .phase) ≡ false
+  pub steady : endedBySize (w .session .phase) ≡ false

@@ -26,5 +26,6 @@ pub mod Total
 pub mod Bound
 pub mod Program
 pub mod Refused
+pub mod Past
 pub mod Push
 pub mod Evidence

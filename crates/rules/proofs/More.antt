@@ -1,4 +1,4 @@
--- More than demand 3: requests are right, completed finalises are final, nothing is cut for a request, no session regresses.
+-- More than demand 3: requests are right, completed finalises are final, nothing is cut for a request, no session ends by a size.
 use mathlib.Core.Path.{_≡_, refl, sym, ap, _∙_, subst}
 use mathlib.Core.List.{_++_, append-assoc}
 use Prim.Native.Nat.{ℕ}
@@ -9,7 +9,7 @@ use Rattle.rules.specs.World.{World, runs, start}
 use Rattle.rules.specs.More.{RightChunk, RightFinish, RightRequest, HoldsMore, MoreThanDemand3}
 use Rattle.rules.proofs.Tests.{clash}
 use Rattle.rules.proofs.Lists.{all-map, Slice, slice-grow}
-use Rattle.rules.proofs.Inv.{Right, isRegressed, Inv}
+use Rattle.rules.proofs.Inv.{Right, endedBySize, Inv}
 use Rattle.rules.proofs.Keeps.{runs-keep}
 use Rattle.rules.proofs.Start.{start-inv}
 use Rattle.rules.proofs.Turns.{steps-of-runs}
@@ -38,7 +38,8 @@ holds-more w i = record {
   requests = all-map (Right (i .K) (w .session .worker .finalized)) (RightRequest (w .notes .all)) (right-request i) (w .notes .handed) (i .handed .right);
   finalised = λ n m l e. (completed-mark i n m l e) .finalised;
   uncut = λ e. (i .flow .flows e) .alive;
-  steady = λ e. clash (ap isRegressed e) (i .steady);
+  steady = λ e. clash (ap endedBySize e) (i .steady);
+  within = λ e. clash (ap endedBySize e) (i .steady);
 }
 
 pub more-than-demand3 : MoreThanDemand3

@@ -11,14 +11,14 @@ use Rattle.rules.specs.World.{World, callIn}
 use Rattle.rules.specs.Program.{Turn, turned, AllDid, ran, Always, itself, Steps, AlwaysSteps}
 use Rattle.rules.specs.Demand3.{Holds}
 use Rattle.rules.specs.More.{HoldsMore}
-use Rattle.rules.specs.Total.{firstTaken, Total}
+use Rattle.rules.specs.Total.{Total, firstTaken, ServedTotal}
 use Rattle.rules.specs.Released.{Accounted, MayDrop}
 use Rattle.rules.specs.Calls.{Run, called, calledAll, begin, AlwaysSince, HoldsCalled, CallTurn, AllDidCall, ranCalls, leftBy, AlwaysDidCall}
 use Rattle.rules.proofs.Lists.{opt-ind}
 use Rattle.rules.proofs.Demand3.{demand3}
 use Rattle.rules.proofs.More.{more-than-demand3}
 use Rattle.rules.proofs.Released.{released-total}
-use Rattle.rules.proofs.Total.{byte-total, copies-needed}
+use Rattle.rules.proofs.Total.{byte-total, byte-total-served, copies-needed}
 use Rattle.rules.proofs.CalledStart.{calls-hold}
 
 -- Valid: what an accepted opening gives and each call keeps
@@ -55,8 +55,8 @@ module _ {S : Type 0} (view : S → Session) (Does : Call → S → Answer → S
   pub program-more : Always view Does Begins (λ o k w. HoldsMore w)
   program-more = program-always (λ o k w. HoldsMore w) more-than-demand3
 
-  pub program-byte-total : Always view Does Begins (λ o k w. Total (firstTaken (o .payload) (k .object)) w)
-  program-byte-total = program-always (λ o k w. Total (firstTaken (o .payload) (k .object)) w) byte-total
+  pub program-byte-total-served : Always view Does Begins (λ o k w. ServedTotal (firstTaken (o .payload) (k .object)) w)
+  program-byte-total-served = program-always (λ o k w. ServedTotal (firstTaken (o .payload) (k .object)) w) byte-total-served
 
   pub program-copies-needed : Always view Does Begins (λ o k w. MayDrop (firstTaken (o .payload) (k .object)) w)
   program-copies-needed = program-always (λ o k w. MayDrop (firstTaken (o .payload) (k .object)) w) copies-needed
@@ -99,6 +99,9 @@ module _ {S : Type 0} (view : S → Session) (Does : Call → S → Answer → S
 
   pub program-calls-hold : AlwaysDidCall view Does Begins (λ _ r. HoldsCalled r)
   program-calls-hold = program-called (λ _ r. HoldsCalled r) calls-hold
+
+  pub program-byte-total : AlwaysDidCall view Does Begins Total
+  program-byte-total = program-called Total byte-total
 
   pub program-released-total : AlwaysDidCall view Does Begins (λ _ r. Accounted r)
   program-released-total = program-called (λ _ r. Accounted r) released-total

@@ -60,7 +60,9 @@ ending-went c k released s = record { went = refl }
 takes-went : (n : Option ℤ) (f : Bool) (s : Session) (last : ℕ → ℕ → Session → Result) → ((k released : ℕ) (t : Session) → Went (last k released t)) → Went (takes n f s last)
 unfolding takes
 takes-went none f s last h = h 0 0 s
-takes-went (some n) f s last h = choose-ind Went _ _ _ (λ e. ending-went _ 0 0 s) (λ e. choose-ind Went _ _ _ (λ i. ending-went _ _ _ _) (λ i. h _ _ _))
+takes-went (some n) f s last h =
+    choose-ind Went _ _ _ (λ e. ending-went _ 0 0 s)
+    (λ e. choose-ind Went _ _ _ (λ i. ending-went _ 0 0 s) (λ i. choose-ind Went _ _ _ (λ j. ending-went _ _ _ _) (λ j. h _ _ _)))
 
 last-went : (k released : ℕ) (s : Session) → Went (lastStep k released s)
 unfolding lastStep

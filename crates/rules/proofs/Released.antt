@@ -3,14 +3,15 @@ use mathlib.Core.Path.{_≡_, refl, sym, ap, ap₂, _∙_, subst}
 use mathlib.Core.Bool.{Bool, true, false}
 use mathlib.Core.Option.{Option, none, some}
 use mathlib.Core.List.{List, [], _∷_, _++_}
-use Prim.Native.Nat.{ℕ, _+_, _-_, _≤_, _<_, min}
+use Prim.Native.Nat.{ℕ, _+_, _-_, _≤_, _<_, min, max}
 use native.Mathlib.Omega.{arith}
 use lib.ListN.{length, take, getElem?, length-append}
-use lib.IntN.{ℤ}
+use lib.IntN.{ℤ, pos, _+ℤ_}
 use lib.Seq.{take-nil}
 use borrow.Author.Tests.{leb-false, lt-leb}
+use Rattle.rules.specs.Basics.{toℕ}
 use Rattle.rules.specs.Message.{Bytes, Response, Break}
-use Rattle.rules.specs.Session.{ReplayChunk, PendingKind, flushing, finalizing, PendingRequest, Cause, Session, Call, append, flush, finalise, nextRequest, close, sendFailed, response, handshake, break, judge, failedAttempt, Answer, refused, took, sends, waits, completes, attempt, ok, done, ends, Result, answers, bytesOf, chunks, waiters, stored, ending}
+use Rattle.rules.specs.Session.{ReplayChunk, PendingKind, flushing, finalizing, PendingRequest, Cause, Writer, Session, Call, append, flush, finalise, nextRequest, close, sendFailed, response, handshake, break, judge, failedAttempt, Answer, refused, took, sends, waits, completes, attempt, ok, done, ends, Result, answers, bytesOf, chunks, waiters, stored, ending}
 use Rattle.rules.specs.Upload.{chunkOf, cuts, room, holding, holds, appends, awaits, asks, closes}
 use Rattle.rules.specs.Respond.{takes, lastStep, responds, toReplay, shakes}
 use Rattle.rules.specs.Reconnect.{breaks, ruled, judges, fails}
@@ -29,7 +30,7 @@ use Rattle.rules.proofs.CallsUpload.{after-full, after-part}
 use Rattle.rules.proofs.Accepted as opening
 use Rattle.rules.proofs.Runs.{runOf, calls-kept, runs-kept}
 use Rattle.rules.proofs.CalledInv.{ack-shorter}
-use Rattle.rules.proofs.CalledStart.{open-stored}
+use Rattle.rules.proofs.CalledStart.{larger-is, open-stored}
 
 -- ---- calls that store nothing
 
@@ -37,10 +38,10 @@ same-stored : (s t : Session) → chunks t ≡ chunks s → stored t ≡ stored 
 unfolding stored
 same-stored s t e = ap (λ (cs : List ReplayChunk). length (bytesOf cs)) e
 
--- t is s without the first n bytes stored; the writer holds what it held
+-- t is s without the first n bytes stored; the writer is as it was
 record Less (s : Session) (n : ℕ) (t : Session) : Type 0 where
   gives : n + stored t ≡ stored s
-  held-is : t .writer .held ≡ s .writer .held
+  writer-is : t .writer ≡ s .writer
   limit-is : t .limit ≡ s .limit
 
 -- so does a result say, and with a call that is no report n is 0
@@ -49,11 +50,11 @@ record Gives (report : Bool) (s : Session) (r : Result) : Type 0 where
   silent : report ≡ false → releasedIn (r .answer) ≡ 0
 
 same : (s : Session) → Less s 0 s
-same s = record { gives = omega arith; held-is = refl; limit-is = refl }
+same s = record { gives = omega arith; writer-is = refl; limit-is = refl }
 
 -- with another phase, connector or mark
-on : {s : Session} {n : ℕ} (t u : Session) → chunks u ≡ chunks t → u .writer .held ≡ t .writer .held → u .limit ≡ t .limit → Less s n t → Less s n u
-on {n} t u c h e l = record { gives = ap (λ (m : ℕ). n + m) (same-stored t u c) ∙ l .gives; held-is = h ∙ l .held-is; limit-is = e ∙ l .limit-is }
+on : {s : Session} {n : ℕ} (t u : Session) → chunks u ≡ chunks t → u .writer ≡ t .writer → u .limit ≡ t .limit → Less s n t → Less s n u
+on {n} t u c h e l = record { gives = ap (λ (m : ℕ). n + m) (same-stored t u c) ∙ l .gives; writer-is = h ∙ l .writer-is; limit-is = e ∙ l .limit-is }
 
 module _ (report : Bool) (s : Session) where
   -- an answer that releases nothing
@@ -103,9 +104,10 @@ module _ (s : Session) where
   takes-gives (some n) f t last l h =
       let g : 0 + length (bytesOf (chunks t)) ≡ length (bytesOf (chunks s)) = l .gives in
       choose-ind (Gives true s) _ _ _ (λ _. ending-gives true s _ 0 0 t l (λ e. refl))
+      (λ _. choose-ind (Gives true s) _ _ _ (λ _. ending-gives true s _ 0 0 t l (λ e. refl))
       (λ _. choose-ind (Gives true s) _ _ _
-      (λ _. ending-gives true s _ _ _ _ (record { gives = omega (arith, ack-shorter n (chunks t)); held-is = l .held-is; limit-is = l .limit-is }) (λ e. never e))
-      (λ _. h _ _ _ (record { gives = omega (arith, ack-shorter n (chunks t)); held-is = l .held-is; limit-is = l .limit-is })))
+      (λ _. ending-gives true s _ _ _ _ (record { gives = omega (arith, ack-shorter n (chunks t)); writer-is = l .writer-is; limit-is = l .limit-is }) (λ e. never e))
+      (λ _. h _ _ _ (record { gives = omega (arith, ack-shorter n (chunks t)); writer-is = l .writer-is; limit-is = l .limit-is }))))
 
 -- ---- the number of each call
 
@@ -195,12 +197,16 @@ released (failedAttempt b v) s = given (fails b v s) (fails-give s b v)
 
 -- ---- the balance
 
--- `from` of the bytes in the notes were there before the opening
-pub record Balance (from : ℕ) (s : Session) (g : Notes) : Type 0 where
+-- `from` of the bytes in the notes were there before the opening, `base` were noted at the opening, and `first` was the write offset there
+pub record Balance (from base first : ℕ) (s : Session) (g : Notes) : Type 0 where
   pub limit-is : g .limit ≡ s .limit
   pub loose-is : g .loose ≡ length (s .writer .held)
   pub small : length (s .writer .held) < s .limit
   pub all-is : length (g .all) ≡ from + g .released + stored s + length (s .writer .held)
+  pub at : ℕ
+  pub offset-is : s .writer .writeOffset ≡ pos at
+  -- the write offset and what is noted grew alike, but for the held bytes
+  pub pushed : at + length (s .writer .held) + base ≡ first + length (g .all)
 
 refused-none : (a : Answer) → accepted a ≡ false → releasedIn a ≡ 0
 refused-none (refused n) e = refl
@@ -213,24 +219,41 @@ refused-none ok e = never e
 refused-none done e = never e
 refused-none (ends c k n f) e = never e
 
-module _ (from : ℕ) where
+module _ (from base first : ℕ) where
   -- the notes of a call c
   record Kept (c : Call) (g : Notes) (r : Result) : Type 0 where
-    balance : Balance from (r .session) (note c (r .answer) g)
+    balance : Balance from base first (r .session) (note c (r .answer) g)
 
-  module _ (s : Session) (g : Notes) (i : Balance from s g) where
+  module _ (s : Session) (g : Notes) (i : Balance from base first s g) where
     -- a call that brings no byte and asks for no waiter
     gives-kept : {report : Bool} (c : Call) (r : Result) → (brings c) .bytes ≡ none → (brings c) .kind ≡ none → Gives report s r → Kept c g r
     gives-kept c r b k h =
-        let e : length (r .session .writer .held) ≡ length (s .writer .held) = ap length (h .less .held-is) in
+        let e : length (r .session .writer .held) ≡ length (s .writer .held) = ap (λ (w : Writer). length (w .held)) (h .less .writer-is) in
+        let o : r .session .writer .writeOffset ≡ pos (i .at) = ap Writer.writeOffset (h .less .writer-is) ∙ i .offset-is in
         let l : r .session .limit ≡ s .limit = h .less .limit-is in
         let n : releasedIn (r .answer) + stored (r .session) ≡ stored s = h .less .gives in
         let w : looseWith ((brings c) .bytes) ((brings c) .kind) g ≡ g .loose = ap₂ (λ (o : Option Bytes) (q : Option PendingKind). looseWith o q g) b k in
         let a : length (allWith ((brings c) .bytes) g) ≡ length (g .all) = ap (λ (o : Option Bytes). length (allWith o g)) b in
         record {
-          balance = cond-ind (Balance from (r .session)) (accepted (r .answer))
-              (λ _. record { limit-is = i .limit-is ∙ sym l; loose-is = omega (arith, i .loose-is); small = omega (arith, i .small); all-is = omega (arith, i .all-is) })
-              (λ f. record { limit-is = i .limit-is ∙ sym l; loose-is = omega (arith, i .loose-is); small = omega (arith, i .small); all-is = omega (arith, i .all-is, refused-none (r .answer) f) });
+          balance = cond-ind (Balance from base first (r .session)) (accepted (r .answer))
+              (λ _. record {
+                limit-is = i .limit-is ∙ sym l;
+                loose-is = omega (arith, i .loose-is);
+                small = omega (arith, i .small);
+                all-is = omega (arith, i .all-is);
+                at = i .at;
+                offset-is = o;
+                pushed = omega (arith, i .pushed);
+              })
+              (λ f. record {
+                limit-is = i .limit-is ∙ sym l;
+                loose-is = omega (arith, i .loose-is);
+                small = omega (arith, i .small);
+                all-is = omega (arith, i .all-is, refused-none (r .answer) f);
+                at = i .at;
+                offset-is = o;
+                pushed = omega (arith, i .pushed);
+              });
         }
 
     -- what the notes say was taken of d is what the session took
@@ -253,6 +276,9 @@ module _ (from : ℕ) where
             loose-is = after-full (g .limit) (s .limit) _ _ (i .limit-is) h f;
             small = omega (arith, i .small);
             all-is = omega (arith, i .all-is, i .loose-is, cut-stored (holding d s) s);
+            at = i .at + length (holding d s);
+            offset-is = ap (λ (z : ℤ). z +ℤ pos (length (holding d s))) (i .offset-is);
+            pushed = omega (arith, i .pushed, i .loose-is);
           };
         })
         (λ f. record {
@@ -261,6 +287,9 @@ module _ (from : ℕ) where
             loose-is = after-part (g .limit) (s .limit) _ _ (i .limit-is) h f;
             small = leb-false (s .limit) (length (holding d s)) f;
             all-is = omega (arith, i .all-is, i .loose-is, same-stored s (holds (holding d s) s) refl);
+            at = i .at;
+            offset-is = i .offset-is;
+            pushed = omega (arith, i .pushed, i .loose-is);
           };
         }))
 
@@ -276,6 +305,9 @@ module _ (from : ℕ) where
             loose-is = after-part (g .limit) (s .limit) _ _ (i .limit-is) h (lt-leb (s .limit) (length (s .writer .held)) (i .small));
             small = i .small;
             all-is = omega (arith, i .all-is);
+            at = i .at;
+            offset-is = i .offset-is;
+            pushed = omega (arith, i .pushed);
           };
         }
 
@@ -293,6 +325,9 @@ module _ (from : ℕ) where
             loose-is = w;
             small = omega (arith, i .small);
             all-is = omega (arith, i .all-is, cut-stored (s .writer .held) s);
+            at = i .at + length (s .writer .held);
+            offset-is = ap (λ (z : ℤ). z +ℤ pos (length (s .writer .held))) (i .offset-is);
+            pushed = omega (arith, i .pushed);
           };
         })
         (λ f. record {
@@ -301,10 +336,13 @@ module _ (from : ℕ) where
             loose-is = w ∙ sym (ap length (nil-of (s .writer .held) f));
             small = i .small;
             all-is = omega (arith, i .all-is, same-stored s (awaits k s) refl);
+            at = i .at;
+            offset-is = i .offset-is;
+            pushed = omega (arith, i .pushed);
           };
         }))
 
-  pub step-balanced : (c : Call) (s : Session) (g : Notes) → Balance from s g → Balance from ((step c s) .session) (note c ((step c s) .answer) g)
+  pub step-balanced : (c : Call) (s : Session) (g : Notes) → Balance from base first s g → Balance from base first ((step c s) .session) (note c ((step c s) .answer) g)
   unfolding step
   step-balanced (append [] out) s g i = (empty-kept s g i out) .balance
   step-balanced (append (x ∷ d) out) s g i = (appends-kept s g i (x ∷ d) out) .balance
@@ -326,39 +364,53 @@ unfolding openSession stored
 opening-released o s a =
     subst (λ (t : Session). openReleased o + stored t ≡ payloadLength (o .payload)) ((opening.accepted o s a) .is) (omega (arith, open-stored (o .payload) (openSize o)))
 
-pub record Balanced (from : ℕ) (r : Run) : Type 0 where
-  pub balance : Balance from (r .session) (r .notes)
+pub record Balanced (from base first : ℕ) (r : Run) : Type 0 where
+  pub balance : Balance from base first (r .session) (r .notes)
 
-call-balanced : (from : ℕ) (c : Call) (r : Run) → Balanced from r → Balanced from (called c (step c (r .session)) r)
-call-balanced from c r i = record { balance = step-balanced from c (r .session) (r .notes) (i .balance) }
+call-balanced : (from base first : ℕ) (c : Call) (r : Run) → Balanced from base first r → Balanced from base first (called c (step c (r .session)) r)
+call-balanced from base first c r i = record { balance = step-balanced from base first c (r .session) (r .notes) (i .balance) }
+
+-- the write offset at an accepted opening: the larger of P and the payload's length
+abbrev pub firstAt : Opening → ℕ
+firstAt o = max (toℕ (openSize o)) (payloadLength (o .payload))
 
 -- whatever the base that the notes begin with
 opening-balanced : (o : Opening) (s : Session) (base : Bytes) (from : ℕ) → opens o ≡ opened s → length base ≡ from + payloadLength (o .payload)
-    → Balanced from (record { session = s; notes = notesAt o base })
+    → Balanced from (length base) (firstAt o) (record { session = s; notes = notesAt o base })
 unfolding openSession
 opening-balanced o s base from a e =
     let h : opening.Accepted o s = opening.accepted o s a in
     let r : openReleased o + stored (openSession o) ≡ payloadLength (o .payload) = opening-released o (openSession o) (a ∙ ap opened (sym (h .is))) in
-    subst (λ (t : Session). Balanced from (record { session = t; notes = notesAt o base })) (h .is)
-    (record { balance = record { limit-is = refl; loose-is = refl; small = h .positive; all-is = omega (arith, e) } })
+    subst (λ (t : Session). Balanced from (length base) (firstAt o) (record { session = t; notes = notesAt o base })) (h .is)
+    (record {
+      balance = record {
+        limit-is = refl;
+        loose-is = refl;
+        small = h .positive;
+        all-is = omega (arith, e);
+        at = firstAt o;
+        offset-is = larger-is (openSize o) (payloadLength (o .payload));
+        pushed = omega arith;
+      };
+    })
 
 base-length : (payload : Option Bytes) (object : Bytes) → length (baseOf payload object) ≡ firstTaken payload object + payloadLength payload
 base-length none object = omega arith
 base-length (some b) object = omega arith
 
-always-balanced : (o : Opening) (s : Session) → opens o ≡ opened s → (cs : List Call) → Balanced 0 (calledAll cs (begin o s))
+pub base-payload : (payload : Option Bytes) → length (baseOf payload []) ≡ payloadLength payload
+base-payload none = refl
+base-payload (some b) = refl
+
+pub always-balanced : (o : Opening) (s : Session) → opens o ≡ opened s → (cs : List Call)
+    → Balanced 0 (length (baseOf (o .payload) [])) (firstAt o) (calledAll cs (begin o s))
 unfolding begin
-always-balanced o s a cs =
-    calls-kept (Balanced 0) (call-balanced 0) cs (begin o s) (opening-balanced o s _ 0 a (base-zero (o .payload)))
-  where
-    base-zero : (payload : Option Bytes) → length (baseOf payload []) ≡ 0 + payloadLength payload
-    base-zero none = omega arith
-    base-zero (some b) = omega arith
+always-balanced o s a cs = calls-kept (Balanced 0 _ _) (call-balanced 0 _ _) cs (begin o s) (opening-balanced o s _ 0 a (omega (arith, base-payload (o .payload))))
 
 pub runs-balanced : (o : Opening) (s : Session) → opens o ≡ opened s → (k : Stored) (es : List Event)
-    → Balanced (firstTaken (o .payload) (k .object)) (runOf (runs es (start o s k)))
+    → Balanced (firstTaken (o .payload) (k .object)) (length (baseOf (o .payload) (k .object))) (firstAt o) (runOf (runs es (start o s k)))
 unfolding start
-runs-balanced o s a k es = runs-kept (Balanced _) (call-balanced _) es (start o s k) (opening-balanced o s _ _ a (base-length (o .payload) (k .object)))
+runs-balanced o s a k es = runs-kept (Balanced _ _ _) (call-balanced _ _ _) es (start o s k) (opening-balanced o s _ _ a (base-length (o .payload) (k .object)))
 
 pub released-total : ReleasedTotal
 released-total o s a cs = omega (arith, (always-balanced o s a cs) .balance .all-is)

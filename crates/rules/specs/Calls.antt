@@ -1,5 +1,5 @@
 -- Claims over calls alone: from an accepted opening on, after every list of calls, refused ones included, whatever they bring.
-use Rattle.rules.specs.Basics.{_≡_, true, false, List, [], _∷_, _+_, _≤_, _<_, length, pos, All}
+use Rattle.rules.specs.Basics.{_≡_, true, false, List, [], _∷_, _+_, _≤_, _<_, length, pos, leZ, All}
 use Rattle.crc32c.specs.Reg.{crcOf}
 use Rattle.rules.specs.Session.{ReplayChunk, Session, Call, Answer, Result, answers, isNil, isEnded, chunks, waiters}
 use Rattle.rules.specs.Respond.{endOffset, pushedEnd}
@@ -39,8 +39,9 @@ EndToEnd (c ∷ d ∷ cs) = (d .writeOffset ≡ endOffset c) × EndToEnd (d ∷ 
 pub record HoldsCalled (r : Run) : Type 0 where
   pub end-to-end : EndToEnd (chunks (r .session))
   pub sums : All (λ (c : ReplayChunk). c .crc32c ≡ crcOf (c .bytes)) (chunks (r .session))
-  -- where a chunk is stored, the last one ends at the write offset
+  -- "The pushed end is the write offset": where a chunk is stored, the last one ends there, and P is never above it
   pub pushed-end : isNil (chunks (r .session)) ≡ false → pushedEnd (pos 0) (chunks (r .session)) ≡ r .session .writer .writeOffset
+  pub within : leZ (r .session .worker .persistedSize) (r .session .writer .writeOffset) ≡ true
   pub held-below : length (r .session .writer .held) < r .session .limit
   pub numbered : Numbered (r .session) (r .notes)
   pub completed-made : r .notes .completed ≤ r .session .writer .made  -- waiters reported completed, and made

@@ -18,6 +18,7 @@ pub mod World
 pub mod Program
 pub mod Demand3
 pub mod More
+pub mod Past
 pub mod Calls
 pub mod Total
 pub mod Released

@@ -2,7 +2,7 @@
 use Rattle.rules.specs.Basics.{_≡_, _≢_, true, some, ℕ, _<_, length, take, drop, getElem?, pos, All}
 use Rattle.crc32c.specs.Reg.{crcOf}
 use Rattle.rules.specs.Message.{Bytes, ChecksummedData, Request}
-use Rattle.rules.specs.Session.{finalizing, regressed, ended}
+use Rattle.rules.specs.Session.{finalizing, regressed, beyond, ended}
 use Rattle.rules.specs.Notes.{Mark}
 use Rattle.rules.specs.World.{World}
 use Rattle.rules.specs.Program.{AlwaysSteps}
@@ -31,8 +31,9 @@ pub record HoldsMore (w : World) : Type 0 where
       → w .server .stored .finalised ≡ true
   -- (c) a connection that lost nothing, with every request sent on it, was never cut: no request was answered by a cut
   pub uncut : w .server .link .lossless ≡ true → w .server .link .alive ≡ true
-  -- (d) no session regresses
+  -- (d) no session ends by a size that goes back or past the end
   pub steady : w .session .phase ≢ ended regressed
+  pub within : w .session .phase ≢ ended beyond
 
 abbrev pub MoreThanDemand3 : Type 0
 MoreThanDemand3 = AlwaysSteps (λ o k w. HoldsMore w)

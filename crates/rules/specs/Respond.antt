@@ -3,7 +3,7 @@ use Rattle.rules.specs.Basics.{Bool, true, false, not, cond, _&&_, _||_,
 use Rattle.crc32c.specs.Reg.{crcOf}
 use Rattle.rules.specs.Message.{Request, Response, sizeOf, isFinalized, over, maxHandle}
 use Rattle.rules.specs.Spec.{noted}
-use Rattle.rules.specs.Session.{ReplayChunk, Connector, PendingKind, flushing, finalizing, PendingRequest, Worker, replay, nothing, bareFlush, regressed, alreadyFinalized, Session, completes, Result, answers, working, setConnector, setMark, setCounters, setSpec, setWorker, setPhase, isLive, isClosing, isConnecting, isEnded, chunks, waiters, stored, watermark, complete, choose, checks, unless, ending}
+use Rattle.rules.specs.Session.{ReplayChunk, Connector, PendingKind, flushing, finalizing, PendingRequest, Worker, replay, nothing, bareFlush, regressed, beyond, alreadyFinalized, Session, completes, Result, answers, working, setConnector, setMark, setCounters, setSpec, setWorker, setPhase, isLive, isClosing, isConnecting, isEnded, chunks, waiters, stored, watermark, complete, choose, checks, unless, ending}
 use Rattle.rules.specs.Upload.{flushRequest}
 
 abbrev pub endOffset : ReplayChunk → ℤ
@@ -32,17 +32,22 @@ absorbs n finalised w =
     let ps = w .pendingRequests in
     working (w .connector) (ack n (w .replayBuffer .queue)) (drop (satisfied n finalised ps) ps) n (w .finalized) (w .selfFlushOutstanding) w
 
+abbrev pub aboveEnd : ℤ → Session → Bool  -- "The pushed end is the write offset."
+aboveEnd n s = ltZ (s .writer .writeOffset) n
+
 -- "no size, only the last step below; size below P, end *regressed*; else P is the size ... A finalised response then ends the session,
--- *already finalised*, unless finalise was sent and no waiter is left." The last step is given the waiters completed and the bytes released:
+-- *already finalised*, unless finalise was sent and no waiter is left." Document 02: a size above the pushed end "ends the session, cause *beyond*, after the
+-- spec update and the test for regress". The last step is given the waiters completed and the bytes released:
 -- "The number is the stored total before less the stored total after."
 unfoldable pub takes : Option ℤ → Bool → Session → (ℕ → ℕ → Session → Result) → Result
 takes none finalised s last = last 0 0 s
 takes (some n) finalised s last =
     choose (ltZ n (s .worker .persistedSize)) (ending regressed 0 0 s)
+    (choose (aboveEnd n s) (ending beyond 0 0 s)
     (let k = satisfied n finalised (waiters s) in
     let s′ = setWorker (absorbs n finalised (s .worker)) s in
     let released = stored s - stored s′ in
-    choose (finalised && not (complete s′)) (ending alreadyFinalized k released s′) (last k released s′))
+    choose (finalised && not (complete s′)) (ending alreadyFinalized k released s′) (last k released s′)))
 
 abbrev pub pushedEnd : ℤ → List ReplayChunk → ℤ  -- the last chunk's end
 pushedEnd z [] = z

@@ -41,7 +41,7 @@ pub record Worker : Type 0 where
 
 -- "Ends other than *finished* fail every waiter."
 pub data Cause : Type 0 where
-  finished regressed alreadyFinalized permanent exhausted givenUp streamError : Cause
+  finished regressed beyond alreadyFinalized permanent exhausted givenUp streamError : Cause
 
 -- a verdict is awaited on a redirect or not; a replay has handed out so many requests
 pub data Phase : Type 0 where

@@ -1,4 +1,4 @@
--- What a status comes to at a view: nothing stated, regressed, already finalised, or on with the last step.
+-- What a status comes to at a view: nothing stated, regressed, beyond, already finalised, or on with the last step.
 -- Assumes nothing.
 use mathlib.Core.Path.{_≡_, refl, sym, ap, _∙_}
 use mathlib.Core.Bool.{Bool, true, false, not, _&&_}
@@ -61,7 +61,12 @@ module _ (finalised : Bool) (s : Session) (store : Bytes) (table : List ℕ) whe
     unfolding takes view workerOf
     takes-regressed e = record { phase-is = refl; beyond = refl; takes = λ last f v. chosen _ _ e; stays = λ f v. v }
 
-    module _ (e : ltZ n (s .worker .«persisted_size» .0) ≡ false) (a : Absorbed) (table′ : List ℕ) (done : Absorbs n finalised s store table a table′) where
+    pub takes-beyond : ltZ n (s .worker .«persisted_size» .0) ≡ false → ltZ (s .«write_offset» .0) n ≡ true
+        → Takes (some n) finalised s store table (record { session = s; way = way.Ends cause.Beyond settledNothing }) table
+    unfolding takes view workerOf
+    takes-beyond e f = record { phase-is = refl; beyond = refl; takes = λ last g v. passed-over _ _ e ∙ chosen _ _ f; stays = λ g v. v }
+
+    module _ (e : ltZ n (s .worker .«persisted_size» .0) ≡ false) (f : ltZ (s .«write_offset» .0) n ≡ false) (a : Absorbed) (table′ : List ℕ) (done : Absorbs n finalised s store table a table′) where
       abbrev ruled : (ℕ → ℕ → R.Session → R.Result) → R.Result
       ruled last =
           let v = view s store table in
@@ -70,7 +75,7 @@ module _ (finalised : Bool) (s : Session) (store : Bytes) (table : List ℕ) whe
 
       at-rule : (last : ℕ → ℕ → R.Session → R.Result) → takes (some n) finalised (view s store table) last ≡ ruled last
       unfolding takes view workerOf
-      at-rule last = passed-over _ _ e
+      at-rule last = passed-over _ _ e ∙ passed-over _ _ f
 
       at-code : (last : ℕ → ℕ → R.Session → R.Result) → Valid s store table
           → ruled last ≡ rest finalised last (a .settled .completed) (a .settled .released) (view (a .session) store table′)

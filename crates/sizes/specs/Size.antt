@@ -34,7 +34,7 @@ abbrev pub onward : Way → (ℕ → ℕ → R.Session → R.Result) → R.Sessi
 onward (way.On k) last v = last (k .completed) (k .released) v
 onward (way.Ends c k) last v = R.ending (causeOf c) (k .completed) (k .released) v
 
--- without a size, or by one that regressed
+-- without a size, or by one that ends the session at once
 abbrev pub settledNothing : Settled
 settledNothing = record { completed = 0; released = 0 }
 

@@ -59,7 +59,7 @@ pub fn handle_response_success(
     }
 }
 
-// "Size below P, end regressed"; else it is absorbed.
+// "Size below P, end regressed"; one above the write offset, end beyond; else it is absorbed.
 fn take_size(s: Session, store: &[u8], table: &mut [u64], n: Offset, finalized: bool) -> Taken
     requires { ⌜ GuardedAt s (length (now store)) (length (now table)) ⌝ }
     ensures { λ r. ⌜ Takes (some (n .0)) finalized s (now (store .entry)) (now (table .entry)) r (now (table .exit)) ⌝ }
@@ -70,6 +70,13 @@ fn take_size(s: Session, store: &[u8], table: &mut [u64], n: Offset, finalized: 
         return Taken {
             session: s,
             way: Way::Ends(Cause::Regressed, nothing()),
+        };
+    }
+    let end = s.write_offset;
+    if bidi_write::below(end, n) {
+        return Taken {
+            session: s,
+            way: Way::Ends(Cause::Beyond, nothing()),
         };
     }
     let a = absorb_size(s, store, table, n, finalized);

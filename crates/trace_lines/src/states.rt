@@ -364,6 +364,7 @@ fn cause(out: &mut [u8], n: usize, x: Cause) -> usize {
     match x {
         Cause::Finished => text(out, n, b"finished"),
         Cause::Regressed => text(out, n, b"regressed"),
+        Cause::Beyond => text(out, n, b"beyond"),
         Cause::AlreadyFinalized => text(out, n, b"already"),
         Cause::Permanent => text(out, n, b"permanent"),
         Cause::Exhausted => text(out, n, b"exhausted"),

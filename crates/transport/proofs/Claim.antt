@@ -31,8 +31,8 @@ program-demand3 = rules.program-demand3 viewOf (Does Promises) Begins ValidAt ke
 pub program-more-than-demand3 : Always (λ o k w. HoldsMore w)
 program-more-than-demand3 = rules.program-more viewOf (Does Promises) Begins ValidAt keeps begun
 
-pub program-byte-total : Always (λ o k w. total.Total (total.firstTaken (o .payload) (k .object)) w)
-program-byte-total = rules.program-byte-total viewOf (Does Promises) Begins ValidAt keeps begun
+pub program-byte-total-served : Always (λ o k w. total.ServedTotal (total.firstTaken (o .payload) (k .object)) w)
+program-byte-total-served = rules.program-byte-total-served viewOf (Does Promises) Begins ValidAt keeps begun
 
 pub program-copies-needed : Always (λ o k w. MayDrop (total.firstTaken (o .payload) (k .object)) w)
 program-copies-needed = rules.program-copies-needed viewOf (Does Promises) Begins ValidAt keeps begun
@@ -41,6 +41,9 @@ program-copies-needed = rules.program-copies-needed viewOf (Does Promises) Begin
 
 pub program-calls-hold : AlwaysCalled (λ _ r. HoldsCalled r)
 program-calls-hold = rules.program-calls-hold viewOf (Does Promises) Begins ValidAt keeps begun
+
+pub program-byte-total : AlwaysCalled total.Total
+program-byte-total = rules.program-byte-total viewOf (Does Promises) Begins ValidAt keeps begun
 
 pub program-released-total : AlwaysCalled (λ _ r. Accounted r)
 program-released-total = rules.program-released-total viewOf (Does Promises) Begins ValidAt keeps begun

@@ -9,7 +9,7 @@ use Rattle.crc32c.specs.Reg.{crcOf}
 use Rattle.rules.specs.Basics.{All}
 use Rattle.rules.specs.Message.{Break, endOfStream, status, otherError, resource, Response}
 use Rattle.rules.specs.Spec.{AppendObjectSpec}
-use Rattle.rules.specs.Session.{ReplayChunk, finished, alreadyFinalized, givenUp, streamError, Session, Call, append, flush, finalise, close, sendFailed, response, break, judge, refused, completes, attempt, ok, ends, chunks, stored}
+use Rattle.rules.specs.Session.{ReplayChunk, finished, beyond, alreadyFinalized, givenUp, streamError, Session, Call, append, flush, finalise, close, sendFailed, response, break, judge, refused, completes, attempt, ok, ends, chunks}
 use Rattle.rules.specs.Upload.{flushRequest}
 use Rattle.rules.specs.Push.{sliced, push}
 use Rattle.rules.specs.Bench.{sized}
@@ -46,8 +46,8 @@ table =
     -- "a finalise wants the size and finalised"
     ∷ row 5 (after (at 0) (finalise 4 ∷ []) (to (response (sized (pos 0))))) (some (completes 0 0 none))
     ∷ row 6 (after (at 0) (finalise 4 ∷ []) (to (response (finalisedAt 0)))) (some (completes 1 0 none))
-    -- "A size above the pushed end is accepted as the crate does."
-    ∷ row 7 (after (at 0) (four ∷ response (sized (pos 9)) ∷ []) stored) (some 0)
+    -- document 02, in place of "A size above the pushed end is accepted as the crate does.": Evidence/Past.antt has more of it
+    ∷ row 7 (after (at 0) (four ∷ []) (to (response (sized (pos 9))))) (some (ends beyond 0 0 0))
     -- "It is a redirect only where the code is Aborted too. Another break adds 1 to the attempt number"
     ∷ row 8 (after (at 0) [] (to (break redirection))) (some (attempt 0))
     ∷ row 9 (after (at 0) [] (to (break unavailable))) (some (attempt 1))

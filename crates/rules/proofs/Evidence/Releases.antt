@@ -6,7 +6,7 @@ use Prim.Native.Nat.{ℕ}
 use lib.IntN.{ℤ, pos, negsuc}
 use Rattle.rules.specs.Basics.{All}
 use Rattle.rules.specs.Message.{endOfStream}
-use Rattle.rules.specs.Session.{regressed, alreadyFinalized, Call, append, flush, response, handshake, break, judge, completes, ends}
+use Rattle.rules.specs.Session.{regressed, beyond, alreadyFinalized, Call, append, flush, response, handshake, break, judge, completes, ends}
 use Rattle.rules.specs.Upload.{flushRequest}
 use Rattle.rules.specs.Opening.{openReleased}
 use Rattle.rules.specs.Bench.{sized, opening}
@@ -24,12 +24,12 @@ ofPayload p = openReleased (opening 4 9 p (some (1 ∷ 2 ∷ 3 ∷ [])))
 
 abbrev pub table : List Row
 table =
-    -- a response inside the first chunk, at its end, inside the second, at the last end, and above it
+    -- a response inside the first chunk, at its end, inside the second, at the last end, and above it, which is *beyond*
     row 1 (after (at 0) six (to (response (sized (pos 3))))) (some (completes 0 3 (some (flushRequest (pos 6)))))
     ∷ row 2 (after (at 0) six (to (response (sized (pos 4))))) (some (completes 0 4 (some (flushRequest (pos 6)))))
     ∷ row 3 (after (at 0) six (to (response (sized (pos 5))))) (some (completes 0 5 (some (flushRequest (pos 6)))))
     ∷ row 4 (after (at 0) six (to (response (sized (pos 6))))) (some (completes 0 6 none))
-    ∷ row 5 (after (at 0) six (to (response (sized (pos 9))))) (some (completes 0 6 none))
+    ∷ row 5 (after (at 0) six (to (response (sized (pos 9))))) (some (ends beyond 0 0 0))
     -- at P, and the second of two
     ∷ row 6 (after (at 0) six (to (response (sized (pos 0))))) (some (completes 0 0 (some (flushRequest (pos 6)))))
     ∷ row 7 (after (at 0) (four ∷ response (sized (pos 1)) ∷ []) (to (response (sized (pos 4))))) (some (completes 0 3 none))
