@@ -4,7 +4,8 @@ its bytes, whose fields may come in any order, stands on one side the request ha
 Intended differences that a script can show:
 
 - `?`: the crate has no answer, and the oracle's lines end there with the reason. Names and tokens of an opening that are not UTF-8: the crate has them as
-  `String`. A bare flush on a connection whose sends fail that the host does not report failed: the crate knows of the failure, the session does not. What
+  `String`. A bare flush on a connection whose sends fail that the host does not report failed: the crate knows of the failure, the session does not. An
+  accepted message with a size above the write offset: it ends the session, and the crate goes on; what comes then is differential/past.py's to say. What
   comes before is compared.
 
 One that the oracle hides, since its driver answers 15 as the port does: to the crate a malformed redirect detail is none, and one with a group is a redirect.

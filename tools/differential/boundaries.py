@@ -1,8 +1,8 @@
 """Document 01's boundary cases, and those of written requests, of redirect details and of what is released, as scripts: for each its name, its calls, and what
-its opening has that the others have not.
+its opening has that the others have not. CASES are the crate's to answer; PAST, sizes above the write offset, are those of differential/past.py.
 
 A call is the mark of its record (docs/TRACE.md) and what it brings, as in docs/DIFFERENCES.md. AP has the bytes, the letters of their offsets from a to z and
-again. RS and HS have a size or none, and `resource` or `finalised` where a resource holds it, or `handle` and the length of one. BR, and FA behind its verdict,
+again. RS and HS have a size or none, `resource` or `finalised` where a resource holds it, and `handle` and the length of one. BR, and FA behind its verdict,
 have a word of BREAKS, or none for an end of stream, or the code of a status and the value of a redirect detail in hexadecimal. WB has the lengths of buffer and
 data.
 
@@ -54,7 +54,7 @@ def call(text):
     if mark == "AP":
         return Append(more.encode())
     if mark in ("RS", "HS"):
-        return message({"RS": Response, "HS": Handshake}[mark], more.split())
+        return message({"RS": Response, "HS": Handshake}[mark], more)
     if mark == "BR":
         return broken(more)
     if mark == "VE":
@@ -74,12 +74,10 @@ def broken(text):
     return Break(1, int(code), bytes.fromhex(detail))
 
 
-def message(kind, words):
-    if not words:
-        return kind()
-    if words[0] == "handle":
-        return kind(handle=b"h" * int(words[1]))
-    return kind(int(words[0]), 2 if words[1:] else None, words[1:] == ["finalised"])
+def message(kind, text):
+    stated, _, held = text.partition("handle ")
+    size, *how = stated.split() or [None]
+    return kind(None if size is None else int(size), 2 if how else None, how == ["finalised"], b"h" * int(held) if held else None)
 
 
 # Refusals 1 to 5, each bound from both sides. Where the store is too short for the largest C or capacity, 2 shows that 1 was not given.
@@ -199,8 +197,8 @@ SIZES = [
     case("P -1, below", f"AP abcd, FL, RS {LOW}", response=Response(-1)),
     case("P 0, equal, one less", "RS 0, RS -1, RS 0"),
     case("P 0, a resource", "AP abcd, RS 4 resource, RS 3 resource"),
-    case("P 0, highest", f"AP abcd, RS {HIGH}, FL, AP efgh, RS {HIGH - 1}"),
-    case("size above the pushed end", "AP abcd, FL, RS 9, AP efgh, RS 8"),
+    case("size at the write offset", "AP abcd, FL, RS 4, AP efgh, AP ij, RS 8, FL, RS 10"),
+    case("handshake at the write offset", "AP abcd, AP ef, FL, BR, VE 1, HS 6, NX, AP g, FL, BR, VE 1, HS 7, NX"),
     case("no size", "AP abcd, RS, AP efgh, FL, RS, RS 8"),
     case("no bare flush in closing", "AP abcd, CL, RS 0, RS 4, BR"),
     case("trim inside a chunk", "AP abcd, AP ef, FL, RS 5, BR, VE 1, HS 5, NX, NX, NX"),
@@ -289,6 +287,7 @@ REDIRECTS = [
     case(
         "redirect 5, after progress",
         "BR redirect, VE 1, FA 1 redirect, FA 1 redirect, HS 1, NX, BR redirect, VE 1, FA 1 redirect, FA 1 redirect, FA 1 redirect",
+        payload=b"a",
     ),
     case("redirect without a token", "BR redirect, VE 1, FA 1 empty redirect"),
     case("redirects 3, other errors", "BR redirect, VE 1, FA 1 redirect, FA 1 redirect, FA 1 error, FA 1 error, FA 3 error"),
@@ -489,3 +488,60 @@ RELEASED = [
 
 CASES = OPENINGS + LENGTHS + PHASES + ENDED + CLOSED + ROOM + SIZES + FINALS + PAYLOADS + RINGS + ATTEMPTS + REDIRECTS + FAILURES + WRITTEN
 CASES += READINGS + MALFORMED + DETAILED + RELEASED
+
+# Sizes above the write offset, and at it. Behind the end every call, and one of them with such a size.
+BEHIND = "FL, AP a, AP, FI, CL, BR, VE 1, FA 1 error, HS 9, NX, SF, RS 9, RS 0, WB 99 4"
+# two redirects and an attempt more
+COUNTED = "BR redirect, VE 1, FA 1 redirect, HS, NX, NX, NX, BR, VE 1"
+PAST = [
+    case("past, by one", f"AP abcd, RS 4, RS 5, {BEHIND}"),
+    case("past, nothing pushed", "RS 0, RS 1, FL"),
+    case("past, P below the write offset", "AP abcd, AP efgh, RS 3, RS 9, AP"),
+    case("past, at P and at chunks' ends before", "AP abcd, AP efgh, RS 0, RS 4, RS 8, RS 9"),
+    case("past, a marked flush", "AP abcd, AP efgh, RS 9, SF"),
+    case("past, waiters", "FL, AP abcd, FL, FI, RS 5, FL"),
+    case("past, one waiter completed before", "FL, AP abcd, FL, RS 3, RS 5"),
+    case("past, 16 waiters", "FL, " * 16 + "RS 1"),
+    case("past, at the end of what is held", "AP abcd, AP ef, RS 6, AP, FL"),
+    case("past, held bytes cut", "AP abcd, AP ef, FL, RS 6, AP gh, RS 7"),
+    case("past, no size before", "AP abcd, RS, RS 5"),
+    case("past, by two", "AP abcd, RS 6"),
+    case("past, highest", f"AP abcd, RS {HIGH}, FL, AP efgh, RS {HIGH - 1}"),
+    case("past, 2^63 - 2", f"RS {HIGH - 1}, RS {HIGH}, FL", response=Response(HIGH - 1)),
+    case("past, 2^63 - 2, one byte held", f"AP g, RS {HIGH}, FL", response=Response(HIGH - 1)),
+    case("past, P lowest", f"RS {LOW}, RS 1", response=Response(LOW)),
+    case("past, P negative", "AP ab, RS -1, RS 0, RS 1, AP c", response=Response(-2)),
+    case("past, empty payload, P -1", "RS -1, RS 1", payload=b"", response=Response(-1)),
+    case("past, a resource", "AP abcd, RS 5 resource, FL"),
+    case("past, a handle", "AP abcd, RS 5 handle 3, FL"),
+    case("past, a resource and a handle", "AP abcd, RS 5 resource handle 2, FL", handle=b"o"),
+    case("past, finalised", "AP abcd, RS 5 finalised, BR"),
+    case("past, finalised, finalise sent", "AP abcd, FI, RS 5 finalised, BR"),
+    case("past, behind a finalised one", "FI, RS 0 finalised, RS 1 finalised, BR"),
+    case("past, regressed first", "AP abcd, RS 4, RS 3, RS 9"),
+    case("past, closing", "AP abcd, FL, CL, RS 4, RS 5, BR, RS 5"),
+    case("past, closing with waiters", "FL, AP a, FL, FL, AP b, CL, RS 2, BR"),
+    case("past, closing, finalised", "AP abcd, CL, RS 5 finalised"),
+    case("past, handshake", f"AP abcd, BR, VE 1, HS 5, {BEHIND}"),
+    case("past, handshake by one", "AP abcd, BR, VE 1, HS 4, NX, BR, VE 1, HS 5, NX"),
+    case("past, handshake, waiters and held bytes", "FL, AP abcd, FL, AP ef, BR, VE 1, AP g, HS 6, NX"),
+    case("past, handshake, counters zeroed", f"AP abcd, {COUNTED}, HS 5 resource"),
+    case("past, handshake, counters kept", f"AP abcd, {COUNTED}, HS 5 resource", last=5),
+    case("past, handshake, last size below", f"AP abcd, {COUNTED}, HS 5", last=4),
+    case("past, handshake finalised", "FI, BR, VE 1, HS 1 finalised, BR"),
+    case("past, handshake, handle", "BR, VE 1, HS 1 handle 3"),
+    case("past, handshake highest", f"AP abcd, BR, VE 1, HS {HIGH}"),
+    case("past, response keeps counters", "AP abcd, BR, VE 1, HS, NX, NX, NX, BR, VE 1, HS, NX, NX, NX, RS 5"),
+    case("past, opening", "RS 5, RS 6", payload=b"abc", response=Response(5)),
+    case("past, opening, then an append", "AP d, FL, RS 6, RS 7", payload=b"abc", response=Response(5)),
+    case("past, opening by a resource", "RS 9, RS 10", response=Response(9, 2)),
+    case("past, payload", "RS 3, RS 4", payload=b"abc"),
+    case("past, payload trimmed", "RS 4, FL", payload=b"abc", response=Response(2)),
+    case("past, 4 first", "RS 1 handle 1025, RS 1 resource handle 1025, BR, VE 1, HS 1 handle 1025, HS 1"),
+    case("past, 6 first", "HS 1, BR, RS 1, HS 1, VE 1, RS 1, HS 0, HS 1, RS 1, NX, HS 1, CL, HS 1, RS 1"),
+    case("past, 7 first", "RS -1, RS 1, HS 1, RS 1 handle 1025"),
+    case("past, behind a failed send", "AP abcd, SF, RS 5, SF"),
+    case("past, before its failure", "AP abcd, RS 5, SF"),
+    case("past, behind a failed bare flush", "AP abcd, AP efgh, RS 2, SF, RS 9, SF"),
+    case("past, behind a replay cut short", "AP abcd, AP efgh, BR, VE 1, HS 0, NX, SF, RS 9"),
+]

@@ -1,5 +1,6 @@
 """Every accepted list of bench calls up to a depth, for C 2 and capacity 5, and every list that a refused call of these kinds ends; behind each one more
-refused call, a verdict of 5, which no phase takes, and the last accepted call's request as bytes.
+refused call, a verdict of 5, which no phase takes, and the last accepted call's request as bytes. No size in them is above the write offset: each list has
+another of its own, which such a size ends, where its phase takes one.
 
 An append of the bench is called again till all is taken, a flush or finalise till it makes its waiter: the records of docs/TRACE.md name each of these calls.
 """
@@ -8,6 +9,7 @@ import struct
 
 from .calls import CLOSE, FINALISE, FLUSH, NEXT, Append, Break, Handshake, Opening, Response, Script, Verdict, Write
 from .moves import State
+from .past import TAKES
 
 OPENING = Opening(chunk=2, capacity=5, response=Response(0))
 BATCH = 20000
@@ -32,13 +34,22 @@ class Node:
         for record, calls in following(State(OPENING, output)):
             yield Node(self.calls + calls, self.bench + record)
 
+    def past(self, output):
+        """with a size one above the write offset; None where no message is taken"""
+        s = State(OPENING, output)
+        if s.phase not in TAKES:
+            return None
+        record, calls = sized(TAKES[s.phase], s.offset + 1)
+        return Node(self.calls + calls, self.bench + record)
+
 
 ROOT = Node([OPENING], b"OP" + struct.pack("<HIq", 2, 5, 0))
 
 
 def sizes(s):
-    """below, at and above P and the write offset, and the ends of the chunks"""
-    return sorted({s.p - 1, s.p, s.p + 1, s.offset, s.offset + 1} | {start + length for start, length in s.chunks})
+    """below, at and above P, at the ends of the chunks and at the write offset"""
+    edges = {s.p - 1, s.p, s.p + 1, s.offset} | {start + length for start, length in s.chunks}
+    return sorted(n for n in edges if n <= s.offset)
 
 
 def append(s, data):
@@ -54,8 +65,8 @@ def asks(s, call):
     return call.mark, [call] * (2 if s.held else 1)
 
 
-def sized(call, s):
-    return [(call.mark + struct.pack("<q", n), [call(n)]) for n in sizes(s)]
+def sized(call, n):
+    return call.mark + struct.pack("<q", n), [call(n)]
 
 
 def plain(call):
@@ -67,13 +78,13 @@ def following(s):
     end_of_stream = (b"BR", [Break(0)])
     if s.phase == b"Live":
         calls = [append(s, b"a"), append(s, b"bc"), asks(s, FLUSH), asks(s, FINALISE), plain(CLOSE)]
-        return calls + sized(Response, s) + [end_of_stream]
+        return calls + [sized(Response, n) for n in sizes(s)] + [end_of_stream]
     if s.phase == b"Closing":
-        return sized(Response, s) + [end_of_stream]
+        return [sized(Response, n) for n in sizes(s)] + [end_of_stream]
     if s.phase == b"Verdict":
         return [plain(Verdict(v)) for v in (1, 2)]
     if s.phase == b"Connecting":
-        return sized(Handshake, s)
+        return [sized(Handshake, n) for n in sizes(s)]
     if s.phase == b"Replay":
         return [plain(NEXT)]
     return []

@@ -1,5 +1,7 @@
 """Random scripts that go deep. A script grows by moves, short lists of calls that are chosen from the state that the oracle shows for it so far. Then requests
-that its calls hand out are written, with buffers around the length of the message, which the oracle's lines tell."""
+that its calls hand out are written, with buffers around the length of the message, which the oracle's lines tell.
+
+No message states a size above the write offset as far as the state can tell, since the crate's lines end there: differential/past.py has these."""
 
 import itertools
 import re
@@ -25,7 +27,7 @@ class State:
     def __init__(self, opening, output):
         found = STATE.search(output, output.rfind(b"  st phase="))
         phase, p, held, stored, capacity, offset, redirects, chunks, waiters = found.groups()
-        self.limit = opening.chunk
+        self.limit, self.slots, self.out = opening.chunk, opening.slots, opening.out
         self.phase = phase
         self.p, self.offset = int(p), int(offset)
         self.held = len(held) // 2
@@ -35,6 +37,11 @@ class State:
         self.waiters = [int(w.split(b"@")[1].split(b":")[0]) for w in waiters.split()]
         # sends of this connection fail
         self.dead = output.rfind(b"\nSF ok") > output.rfind(b"\nHS ")
+
+    def cuts_held(self):
+        """whether a flush or finalise would cut the held bytes"""
+        room = self.stored < self.capacity and len(self.chunks) < self.slots and self.offset <= HIGH - self.held
+        return self.held > 0 and room and self.out >= self.limit
 
 
 def state_of(opening, output):
@@ -130,7 +137,7 @@ def handshake(rng, size, finalised=False):
 
 
 def size(rng, s):
-    """near what the state makes interesting"""
+    """near what the state makes interesting, and at most the write offset"""
     k = rng.random()
     edges = [edge for start, length in s.chunks for edge in (start, start + length)] + s.waiters
     if k < 0.1:
@@ -140,16 +147,14 @@ def size(rng, s):
     elif k < 0.5 and edges:
         n = rng.choice(edges) + rng.choice([0, 0, 0, -1, 1])
     elif k < 0.85:
-        n = rng.randint(min(s.p, s.offset), max(s.p, s.offset))
-    elif k < 0.95:
-        n = s.offset
+        n = rng.randint(s.p, s.offset)
     elif k < 0.98:
-        n = s.offset + rng.randint(1, 3)
+        n = s.offset
     else:
-        n = rng.choice([LOW, -1, 0, 2**62, HIGH])
+        n = rng.choice([LOW, -1, 0, 2**62])
     if n < s.p and rng.random() < 0.8:
         n = s.p
-    return max(LOW, min(HIGH, n))
+    return max(LOW, min(s.offset, n))
 
 
 def stream_break(rng, redirects=0.3):
@@ -208,8 +213,8 @@ def report_all(rng, s):
 
 def finalise(rng, s):
     calls = [FINALISE] * (1 if s.held == 0 else 2)
-    end = max(s.offset + s.held, s.p)
-    answer = response(rng, min(end + rng.choice([0, 0, 0, 0, -1, 1]), HIGH), rng.random() < 0.8)
+    end = s.offset + s.held if s.cuts_held() else s.offset
+    answer = response(rng, max(end + rng.choice([0, 0, 0, 0, -1]), LOW), rng.random() < 0.8)
     more = [
         [],
         [answer],

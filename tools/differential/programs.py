@@ -34,12 +34,16 @@ class Program:
 class Crate(Program):
     """The oracle, with the request that it is to be in place of a written message."""
 
+    name = "the crate"
+
     def run(self, scripts):
         return [handed_out(output) for output in super().run(scripts)]
 
 
 class Port(Program):
     """The program trace, with what the crate's decoder reads back in place of a written message."""
+
+    name = "the port"
 
     def __init__(self, oracle, *command):
         super().__init__(*command)

@@ -1,4 +1,5 @@
-"""What a script reaches of document 01's rules, read from its calls and the oracle's lines. FEATURES is the whole list."""
+"""What a script reaches of document 01's rules, read from its calls and the oracle's lines. FEATURES is the whole list of what the crate judges; BEYOND is what
+the cases of sizes above the write offset reach, by the lines of differential/past.py."""
 
 import itertools
 import re
@@ -43,7 +44,7 @@ ENDS = [
 OTHERS = [
     "own flush on a chunk of AP", "own flush on a chunk of FL", "own flush bare by RS", "own flush bare by NX", "no own flush while marked",
     "no own flush while waiting", "mark cleared by RS without size", "mark cleared by RS with size", "mark cleared by BR", "size at P",
-    "size above the pushed end", "P at 2^63-1", "P at -2^63",
+    "size at the write offset", "P at 2^63-1", "P at -2^63",
     "waiters completed by RS: 1", "waiters completed by RS: several", "waiters completed by HS: 1", "waiters completed by HS: several",
     "front waiter blocks", "finalise completed by RS", "finalise completed by HS", "finish with sum", "finish without sum", "16 waiters",
     "redirect 1", "redirect 2", "redirect 3", "redirect 4", "redirect turns verdict 2", "redirect turns verdict 3", "fourth redirect, verdict 2",
@@ -84,6 +85,11 @@ FEATURES = (
     + DETAILS
     + RELEASES
 )
+BESIDE = ["", " with waiters", " with bytes stored", " with bytes held", ", finalised", ", spec changes"]
+BEYOND = [
+    *(f"{mark} beyond{what}" for mark in ("RS", "HS") for what in BESIDE),
+    "RS beyond in Closing", "RS beyond clears the mark", "HS beyond zeroes counters", "HS beyond keeps counters",
+]  # fmt: skip
 
 
 class View:
@@ -151,7 +157,7 @@ def reached(script, output):
         sent, between = sender(mark, answer, before), None
         last, request = "the end" if answer == "end" else mark, next((line[5:] for line in text if line.startswith(b"  rq ")), None)
         before = after
-    return found & set(FEATURES)
+    return found & set(FEATURES + BEYOND)
 
 
 def unopened(o, answer):
@@ -241,6 +247,7 @@ def accepted(mark, call, answer, before, after):
             found.add("end: BR finished after a status")
     if mark in ("RS", "HS"):
         found |= responded(mark, call, answer, before, after)
+        found |= passed(mark, call, before, after) if after.cause == "beyond" else set()
     if mark in ("BR", "FA"):
         found |= broken(mark, call if mark == "BR" else call.error, before, after)
     if mark in ("VE", "FA"):
@@ -285,7 +292,7 @@ def responded(mark, r, answer, before, after):
         f"{mark} handle": r.handle is not None,
         f"mark cleared by {mark} {'without' if r.size is None else 'with'} size": before.mark and not after.mark,
         "size at P": r.size == before.p,
-        "size above the pushed end": r.size is not None and r.size > before.offset and answer != "end",
+        "size at the write offset": r.size == before.offset and answer != "end",
         "P at 2^63-1": after.p == HIGH,
         f"waiters completed by {mark}: 1": gone == 1,
         f"waiters completed by {mark}: several": gone > 1,
@@ -293,6 +300,25 @@ def responded(mark, r, answer, before, after):
         f"finalise completed by {mark}": gone >= 1 and r.finalised,
         "counters zeroed by HS": mark == "HS" and (before.attempts > 0 or before.redirects > 0) and after.attempts == after.redirects == 0,
         "last size kept by HS without size": mark == "HS" and r.size is None,
+    }
+    return {name for name, holds in rules.items() if holds}
+
+
+def passed(mark, r, before, after):
+    """of a message that ends beyond"""
+    counted = before.attempts > 0 or before.redirects > 0
+    zeroed = after.attempts == after.redirects == 0
+    rules = {
+        f"{mark} beyond": True,
+        f"{mark} beyond with waiters": bool(before.waiters),
+        f"{mark} beyond with bytes stored": before.stored > 0,
+        f"{mark} beyond with bytes held": before.held > 0,
+        f"{mark} beyond, finalised": r.finalised,
+        f"{mark} beyond, spec changes": after.spec != before.spec,
+        f"{mark} beyond in Closing": before.phase == "Closing",
+        f"{mark} beyond clears the mark": before.mark,
+        f"{mark} beyond zeroes counters": counted and zeroed,
+        f"{mark} beyond keeps counters": counted and not zeroed,
     }
     return {name for name, holds in rules.items() if holds}
 

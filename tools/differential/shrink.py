@@ -70,8 +70,8 @@ def explain(script, oracle, port):
     (crate,), (ours,) = oracle.run([script]), port.run([script])
     a, b = first_difference(crate, ours)
     lines = [f"  {i}. {call.words()}" for i, call in enumerate(script.calls, 1)]
-    lines += ["  the crate:"] + ["    " + text for text in shown(a, b)]
-    lines += ["  the port:"] + ["    " + text for text in shown(b, a)]
+    lines += [f"  {oracle.name}:"] + ["    " + text for text in shown(a, b)]
+    lines += [f"  {port.name}:"] + ["    " + text for text in shown(b, a)]
     return "\n".join(lines)
 
 

@@ -16,6 +16,8 @@ use std::collections::BTreeSet;
 /// Where the crate can give no answer, the script's lines end in `?` and a reason.
 const NOT_TEXT: &str = "? names and tokens of the crate are UTF-8";
 const NOT_REPORTED: &str = "? a flush on a connection whose sends fail was not reported failed";
+/// Not that it has none here: document 02 wants another.
+const PAST_THE_END: &str = "? a size above the write offset ends the session, and the crate goes on";
 
 /// Why a run goes no further.
 enum End {
@@ -212,6 +214,10 @@ impl<'a> Runner<'a> {
         }
         if self.unreported && !matches!(call, Call::SendFailed) {
             self.no_answer(NOT_REPORTED);
+            return false;
+        }
+        if states_past(call, view.write_offset) {
+            self.no_answer(PAST_THE_END);
             return false;
         }
         self.unreported = false;
@@ -418,6 +424,14 @@ impl<'a> Runner<'a> {
             Some(None) => self.line("WB E14"),
             Some(Some(bytes)) => self.line(&format!("WB {}\n  wb {}", bytes.len(), lines::hex(&bytes))),
         }
+    }
+}
+
+/// Whether the call brings a size above the write offset. P is never above that, so such a size is no regress.
+fn states_past(call: &Call, write_offset: i64) -> bool {
+    match call {
+        Call::Response(r) | Call::Handshake(r) => r.size().is_some_and(|size| size > write_offset),
+        _ => false,
     }
 }
 
