@@ -39,7 +39,7 @@ holds-more w i = record {
   finalised = λ n m l e. (completed-mark i n m l e) .finalised;
   uncut = λ e. (i .flow .flows e) .alive;
   steady = λ e. clash (ap endedBySize e) (i .steady);
-  within = λ e. clash (ap endedBySize e) (i .steady);
+  not-beyond = λ e. clash (ap endedBySize e) (i .steady);
 }
 
 pub more-than-demand3 : MoreThanDemand3

@@ -104,7 +104,7 @@ takes-past call (some n) f c s last u h =
     (λ e. choose-ind (Past call (some n) s) _ _ _
     (λ g. record {
       exactly = sym (past-is n s e g);
-      kept = λ _. record { spec-is = u; persisted = refl; store = refl; writer-is = refl; fails = refl; none-waits = refl };
+      kept = λ _. record { phase-is = refl; spec-is = u; persisted = refl; store = refl; writer-is = refl; fails = refl; none-waits = refl };
     })
     (λ g. choose-ind (Past call (some n) s) _ _ _ (λ _. within call (some n) s _ (inside-not n s g) (record { other = refl }))
     (λ _. within call (some n) s _ (inside-not n s g) (h _ _ _))))

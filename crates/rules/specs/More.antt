@@ -33,7 +33,7 @@ pub record HoldsMore (w : World) : Type 0 where
   pub uncut : w .server .link .lossless ≡ true → w .server .link .alive ≡ true
   -- (d) no session ends by a size that goes back or past the end
   pub steady : w .session .phase ≢ ended regressed
-  pub within : w .session .phase ≢ ended beyond
+  pub not-beyond : w .session .phase ≢ ended beyond
 
 abbrev pub MoreThanDemand3 : Type 0
 MoreThanDemand3 = AlwaysSteps (λ o k w. HoldsMore w)

@@ -1,7 +1,7 @@
 -- A report past the end, of every call and session: document 02.
 use Rattle.rules.specs.Basics.{_≡_, Bool, true, false, not, _&&_, Option, none, some, [], length, ℤ, ltZ}
 use Rattle.rules.specs.Spec.{AppendObjectSpec, noted}
-use Rattle.rules.specs.Session.{Cause, finished, regressed, beyond, alreadyFinalized, permanent, exhausted, givenUp, streamError, Session, Call, append, flush, finalise, nextRequest, close, sendFailed, response, handshake, break, judge, failedAttempt, Answer, refused, took, sends, waits, completes, attempt, ok, done, ends, Result, waiters}
+use Rattle.rules.specs.Session.{Cause, finished, regressed, beyond, alreadyFinalized, permanent, exhausted, givenUp, streamError, ended, Session, Call, append, flush, finalise, nextRequest, close, sendFailed, response, handshake, break, judge, failedAttempt, Answer, refused, took, sends, waits, completes, attempt, ok, done, ends, Result, waiters}
 use Rattle.rules.specs.Respond.{aboveEnd}
 use Rattle.rules.specs.Step.{step}
 use Rattle.rules.specs.Notes.{accepted, brings}
@@ -32,6 +32,7 @@ specWith (failedAttempt b v) a = a
 
 -- "after the spec update ..; P and the store keep their contents and every waiter fails."
 pub record Kept (c : Call) (s : Session) (r : Result) : Type 0 where
+  pub phase-is : r .session .phase ≡ ended beyond
   pub spec-is : r .session .worker .connector .spec ≡ specWith c (s .worker .connector .spec)
   pub persisted : r .session .worker .persistedSize ≡ s .worker .persistedSize
   pub store : r .session .worker .replayBuffer ≡ s .worker .replayBuffer
