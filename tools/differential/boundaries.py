@@ -1,5 +1,5 @@
 """Document 01's boundary cases, and those of written requests, of redirect details and of what is released, as scripts: for each its name, its calls, and what
-its opening has that the others have not. CASES are the crate's to answer; PAST, sizes above the write offset, are those of differential/past.py.
+its opening has that the others have not. CASES are the crate's to answer; PAST, sizes above the write offset, are answered by the rule of differential/past.py.
 
 A call is the mark of its record (docs/TRACE.md) and what it brings, as in docs/DIFFERENCES.md. AP has the bytes, the letters of their offsets from a to z and
 again. RS and HS have a size or none, `resource` or `finalised` where a resource holds it, and `handle` and the length of one. BR, and FA behind its verdict,
@@ -489,7 +489,7 @@ RELEASED = [
 CASES = OPENINGS + LENGTHS + PHASES + ENDED + CLOSED + ROOM + SIZES + FINALS + PAYLOADS + RINGS + ATTEMPTS + REDIRECTS + FAILURES + WRITTEN
 CASES += READINGS + MALFORMED + DETAILED + RELEASED
 
-# Sizes above the write offset, and at it. Behind the end every call, and one of them with such a size.
+# Sizes above the write offset, and at it. Behind the end every call, two of them with such a size.
 BEHIND = "FL, AP a, AP, FI, CL, BR, VE 1, FA 1 error, HS 9, NX, SF, RS 9, RS 0, WB 99 4"
 # two redirects and an attempt more
 COUNTED = "BR redirect, VE 1, FA 1 redirect, HS, NX, NX, NX, BR, VE 1"
