@@ -30,7 +30,7 @@ specWith (break b) a = a
 specWith (judge v) a = a
 specWith (failedAttempt b v) a = a
 
--- "after the spec update ..; P and the store keep their contents and every waiter fails."
+-- "after the spec update ..; P and the store keep their contents and every waiter fails." The counters and the mark are left to `step`.
 pub record Kept (c : Call) (s : Session) (r : Result) : Type 0 where
   pub phase-is : r .session .phase ≡ ended beyond
   pub spec-is : r .session .worker .connector .spec ≡ specWith c (s .worker .connector .spec)

@@ -8,8 +8,8 @@ use Prim.Native.Nat.{ℕ}
 use lib.ListN.{length}
 use lib.IntN.{ℤ, pos, negsuc}
 use Rattle.rules.specs.Basics.{All}
-use Rattle.rules.specs.Message.{resource, Response, endOfStream}
-use Rattle.rules.specs.Session.{ReplayChunk, regressed, beyond, Session, Call, append, flush, close, response, handshake, break, judge, completes, ends, setWorker, chunks, stored}
+use Rattle.rules.specs.Message.{resource, Response}
+use Rattle.rules.specs.Session.{ReplayChunk, regressed, beyond, Session, Call, append, flush, close, response, handshake, completes, ends, setWorker, chunks, stored}
 use Rattle.rules.specs.Respond.{absorbs}
 use Rattle.rules.specs.Opening.{Opening, Opened, turnedAway, opened, opens}
 use Rattle.rules.specs.Bench.{sized, opening}
@@ -17,6 +17,7 @@ use Rattle.rules.specs.Calls.{Run, calledAll, begin}
 use Rattle.rules.specs.Total.{belowP}
 use Rattle.rules.proofs.Evidence.Computed.{computed}
 use Rattle.rules.proofs.Evidence.Table.{Row, row, Met, after, to, at}
+use Rattle.rules.proofs.Evidence.Refusals.{away}
 use Rattle.rules.proofs.Evidence.Cases.{finalisedAt, four}
 
 -- a chunk from 0 to 4, a byte held, and two waiters
@@ -26,9 +27,6 @@ five = four ∷ flush 4 ∷ flush 4 ∷ append (5 ∷ []) 4 ∷ []
 -- the handle 7 and generation 3 beside the size
 abbrev telling : ℕ → Response
 telling n = record { writeStatus = some (resource (pos n) (record { number = pos 3 }) false); writeHandle = some (7 ∷ []) }
-
-abbrev away : List Call
-away = break endOfStream ∷ judge 1 ∷ []
 
 -- P 9 with the write offset 0, which no calls lead to
 abbrev astray : Session → Session

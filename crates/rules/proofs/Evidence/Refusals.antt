@@ -33,7 +33,7 @@ opening limit store slots name payload p finalised = record {
 abbrev ten : List Call
 ten = append (1 ∷ 2 ∷ 3 ∷ 4 ∷ []) 4 ∷ append (1 ∷ 2 ∷ 3 ∷ 4 ∷ []) 4 ∷ append (1 ∷ 2 ∷ []) 4 ∷ flush 4 ∷ []
 
-abbrev away : List Call
+abbrev pub away : List Call
 away = break endOfStream ∷ judge 1 ∷ []
 
 -- a redirect's detail with a token of 513 bytes
