@@ -1,13 +1,12 @@
--- "A refused call changes nothing", and it gives a number that the tables have for it: 4, 6 to 13, and 15 where it brings a detail. 15 it gives
--- exactly where that is malformed.
-use mathlib.Core.Path.{_≡_, refl, sym, _∙_}
+-- "A refused call changes nothing", and it gives one of the numbers that the papers have for it. 15 it gives exactly where a detail is malformed.
+use mathlib.Core.Path.{_≡_, refl, sym, ap, _∙_}
 use mathlib.Core.Bool.{Bool, true, false, not, _&&_, _||_}
 use mathlib.Core.Option.{Option, none, some}
 use mathlib.Core.List.{List, [], _∷_}
 use Prim.Native.Nat.{ℕ, _-_}
 use lib.ListN.{length, getElem?}
 use lib.IntN.{ℤ}
-use lib.Dec.{leb, eqb}
+use lib.Dec.{eqb}
 use borrow.Author.Tests.{eqb-true}
 use Rattle.rules.specs.Session.{ReplayChunk, PendingRequest, Cause, finished, Phase, live, closing, connecting, verdict, replay, ended, Session, Call, append, flush, finalise, nextRequest, close, sendFailed, response, handshake, break, judge, failedAttempt, Answer, refused, took, sends, waits, completes, attempt, ok, done, ends, refusedWith, Result, isLive, isConnecting, isClosing, isEnded, chunks, waiters, choose, unless, ending}
 use Rattle.rules.specs.Message.{Break, isMalformed}
@@ -20,36 +19,48 @@ use Rattle.rules.specs.Notes.{accepted}
 use Rattle.rules.proofs.Tests.{never, and-left, and-right}
 use Rattle.rules.proofs.Lists.{cond-ind, choose-ind}
 
-abbrev pub bringsDetail : Call → Bool
-bringsDetail = elim [ break b ↦ true | failedAttempt b v ↦ true | append d out ↦ false | flush out ↦ false | finalise out ↦ false | nextRequest out ↦ false | close ↦ false | sendFailed ↦ false | response m ↦ false | handshake m ↦ false | judge v ↦ false ]
+-- the numbers that a call may be refused with
+abbrev pub numbersOf : Call → List ℕ
+numbersOf (append d out) = 7 ∷ 12 ∷ 6 ∷ 11 ∷ 8 ∷ 9 ∷ 10 ∷ []
+numbersOf (flush out) = 7 ∷ 12 ∷ 6 ∷ 11 ∷ 8 ∷ 9 ∷ 10 ∷ []
+numbersOf (finalise out) = 7 ∷ 12 ∷ 6 ∷ 11 ∷ 8 ∷ 9 ∷ 10 ∷ []
+numbersOf (nextRequest out) = 7 ∷ 6 ∷ 11 ∷ []
+numbersOf close = 7 ∷ 6 ∷ 8 ∷ []
+numbersOf sendFailed = 7 ∷ 6 ∷ []
+numbersOf (response m) = 7 ∷ 6 ∷ 4 ∷ []
+numbersOf (handshake m) = 7 ∷ 6 ∷ 4 ∷ []
+numbersOf (break b) = 7 ∷ 6 ∷ 15 ∷ 4 ∷ []
+numbersOf (judge v) = 7 ∷ 6 ∷ 13 ∷ []
+numbersOf (failedAttempt b v) = 7 ∷ 6 ∷ 13 ∷ 15 ∷ 4 ∷ []
 
-abbrev pub inTable : Bool → ℕ → Bool
-inTable detail n = eqb n 4 || (leb 6 n && leb n 13) || (detail && eqb n 15)
+abbrev pub isOneOf : List ℕ → ℕ → Bool
+isOneOf [] n = false
+isOneOf (m ∷ ms) n = eqb n m || isOneOf ms n
 
-abbrev numbered : Bool → List (Bool × ℕ) → Bool
-numbered detail [] = true
-numbered detail (t ∷ ts) = inTable detail (t .1) && numbered detail ts
+abbrev numbered : List ℕ → List (Bool × ℕ) → Bool
+numbered ms [] = true
+numbered ms (t ∷ ts) = isOneOf ms (t .1) && numbered ms ts
 
 record Went (r : Result) : Type 0 where
   went : accepted (r .answer) ≡ true
 
-record Refusing (detail : Bool) (s : Session) (r : Result) : Type 0 where
+record Refusing (ms : List ℕ) (s : Session) (r : Result) : Type 0 where
   keeps : (n : ℕ) → r .answer ≡ refused n → r .session ≡ s
-  number : (n : ℕ) → r .answer ≡ refused n → inTable detail n ≡ true
+  number : (n : ℕ) → r .answer ≡ refused n → isOneOf ms n ≡ true
 
-went-refusing : (detail : Bool) (s : Session) (r : Result) → Went r → Refusing detail s r
-went-refusing detail s r h = record {
+went-refusing : (ms : List ℕ) (s : Session) (r : Result) → Went r → Refusing ms s r
+went-refusing ms s r h = record {
   keeps = λ n e. let a : accepted (r .answer) ≡ true = h .went in cc;
   number = λ n e. let a : accepted (r .answer) ≡ true = h .went in cc;
 }
 
-unless-refusing : (detail : Bool) (s : Session) (rows : List (Bool × ℕ)) (r : Result) → numbered detail rows ≡ true → Went r → Refusing detail s (unless s rows r)
+unless-refusing : (ms : List ℕ) (s : Session) (rows : List (Bool × ℕ)) (r : Result) → numbered ms rows ≡ true → Went r → Refusing ms s (unless s rows r)
 unfolding unless
-unless-refusing detail s [] r e h = went-refusing detail s r h
-unless-refusing detail s (t ∷ ts) r e h =
-    cond-ind (Refusing detail s) (t .0)
-    (λ a. record { keeps = λ n f. refl; number = λ n f. let g : inTable detail (t .1) ≡ true = and-left _ _ e in cc })
-    (λ a. unless-refusing detail s ts r (and-right (inTable detail (t .1)) _ e) h)
+unless-refusing ms s [] r e h = went-refusing ms s r h
+unless-refusing ms s (t ∷ ts) r e h =
+    cond-ind (Refusing ms s) (t .0)
+    (λ a. record { keeps = λ n f. refl; number = λ n f. let g : isOneOf ms (t .1) ≡ true = and-left _ _ e in cc })
+    (λ a. unless-refusing ms s ts r (and-right (isOneOf ms (t .1)) _ e) h)
 
 -- ---- past its refusals a call is accepted
 
@@ -90,30 +101,30 @@ chunk-went (some c) i s = record { went = refl }
 break-went : (a b : Bool) (c : Cause) (s : Session) (r : Result) → Went r → Went (choose a (ending finished 0 0 s) (choose b (ending c 0 0 s) r))
 break-went a b c s r h = choose-ind Went _ _ _ (λ e. ending-went _ 0 0 s) (λ e. choose-ind Went _ _ _ (λ f. ending-went c 0 0 s) (λ f. h))
 
-step-refusing : (c : Call) (s : Session) → Refusing (bringsDetail c) s (step c s)
+step-refusing : (c : Call) (s : Session) → Refusing (numbersOf c) s (step c s)
 unfolding step appends asks hands closes unsent responds shakes breaks judges fails
 step-refusing (append [] out) s = record { keeps = λ n e. refl; number = λ n e. cc }
-step-refusing (append (x ∷ d) out) s = unless-refusing false s _ _ refl (choose-ind Went _ _ _ (λ e. record { went = refl }) (λ e. record { went = refl }))
-step-refusing (flush out) s = unless-refusing false s _ _ refl (choose-ind Went _ _ _ (λ e. record { went = refl }) (λ e. record { went = refl }))
-step-refusing (finalise out) s = unless-refusing false s _ _ refl (choose-ind Went _ _ _ (λ e. record { went = refl }) (λ e. record { went = refl }))
-step-refusing (nextRequest out) s = unless-refusing false s _ _ refl (chunk-went _ _ s)
-step-refusing close s = unless-refusing false s _ _ refl (record { went = refl })
-step-refusing sendFailed s = unless-refusing false s _ _ refl (record { went = refl })
-step-refusing (response m) s = unless-refusing false s _ _ refl (takes-went _ _ _ lastStep last-went)
-step-refusing (handshake m) s = unless-refusing false s _ _ refl (takes-went _ _ _ toReplay replay-went)
-step-refusing (break b) s = unless-refusing true s _ _ refl (break-went _ _ _ s _ (record { went = refl }))
-step-refusing (judge v) s = unless-refusing false s _ _ refl (ruled-went _ _)
-step-refusing (failedAttempt b v) s = unless-refusing true s _ _ refl (ruled-went _ _)
+step-refusing (append (x ∷ d) out) s = unless-refusing _ s _ _ refl (choose-ind Went _ _ _ (λ e. record { went = refl }) (λ e. record { went = refl }))
+step-refusing (flush out) s = unless-refusing _ s _ _ refl (choose-ind Went _ _ _ (λ e. record { went = refl }) (λ e. record { went = refl }))
+step-refusing (finalise out) s = unless-refusing _ s _ _ refl (choose-ind Went _ _ _ (λ e. record { went = refl }) (λ e. record { went = refl }))
+step-refusing (nextRequest out) s = unless-refusing _ s _ _ refl (chunk-went _ _ s)
+step-refusing close s = unless-refusing _ s _ _ refl (record { went = refl })
+step-refusing sendFailed s = unless-refusing _ s _ _ refl (record { went = refl })
+step-refusing (response m) s = unless-refusing _ s _ _ refl (takes-went _ _ _ lastStep last-went)
+step-refusing (handshake m) s = unless-refusing _ s _ _ refl (takes-went _ _ _ toReplay replay-went)
+step-refusing (break b) s = unless-refusing _ s _ _ refl (break-went _ _ _ s _ (record { went = refl }))
+step-refusing (judge v) s = unless-refusing _ s _ _ refl (ruled-went _ _)
+step-refusing (failedAttempt b v) s = unless-refusing _ s _ _ refl (ruled-went _ _)
 
 pub refused-changes-nothing : (c : Call) (s : Session) (n : ℕ) → (step c s) .answer ≡ refused n → (step c s) .session ≡ s
 refused-changes-nothing c s = (step-refusing c s) .keeps
 
-pub only-table-numbers : (c : Call) (s : Session) (n : ℕ) → (step c s) .answer ≡ refused n → inTable (bringsDetail c) n ≡ true
+pub only-table-numbers : (c : Call) (s : Session) (n : ℕ) → (step c s) .answer ≡ refused n → isOneOf (numbersOf c) n ≡ true
 only-table-numbers c s = (step-refusing c s) .number
 
 -- ---- 15
 
-goes-on : (n : ℕ) (a : Answer) → accepted a ≡ true → refusedWith n a ≡ false
+pub goes-on : (n : ℕ) (a : Answer) → accepted a ≡ true → refusedWith n a ≡ false
 goes-on n (refused k) e = never (sym e)
 goes-on n (took k r) e = refl
 goes-on n (sends r) e = refl
@@ -124,21 +135,21 @@ goes-on n ok e = refl
 goes-on n done e = refl
 goes-on n (ends c k m f) e = refl
 
--- where the table has no 15
-other-number : (a : Answer) → ((n : ℕ) → a ≡ refused n → inTable false n ≡ true) → refusedWith 15 a ≡ false
-other-number (refused k) h = at (eqb k 15) refl
+-- a number that the call does not have
+pub other-number : (x : ℕ) (ms : List ℕ) (a : Answer) → isOneOf ms x ≡ false → ((n : ℕ) → a ≡ refused n → isOneOf ms n ≡ true) → refusedWith x a ≡ false
+other-number x ms (refused k) f h = at (eqb k x) refl
   where
-    at : (t : Bool) → eqb k 15 ≡ t → t ≡ false
-    at true e = let same : k ≡ 15 = eqb-true k 15 e in never (sym (rw same at (h k refl)))
+    at : (t : Bool) → eqb k x ≡ t → t ≡ false
+    at true e = never (sym (h k refl) ∙ ap (isOneOf ms) (eqb-true k x e) ∙ f)
     at false e = refl
-other-number (took k r) h = refl
-other-number (sends r) h = refl
-other-number (waits r k) h = refl
-other-number (completes k m r) h = refl
-other-number (attempt k) h = refl
-other-number ok h = refl
-other-number done h = refl
-other-number (ends c k m f) h = refl
+other-number x ms (took k r) f h = refl
+other-number x ms (sends r) f h = refl
+other-number x ms (waits r k) f h = refl
+other-number x ms (completes k m r) f h = refl
+other-number x ms (attempt k) f h = refl
+other-number x ms ok f h = refl
+other-number x ms done f h = refl
+other-number x ms (ends c k m g) f h = refl
 
 -- the tests of a break, and of a failed attempt, in their order
 of-break : (over phase malformed long : Bool) (s : Session) (r : Result) → Went r
@@ -190,14 +201,14 @@ attempt-exactly b v s =
     of-attempt (isEnded (s .phase)) _ (noVerdict v) (isMalformed b) _ s _ (ruled-went _ _) ∙ dialling (s .phase) (noVerdict v) (isMalformed b)
 
 pub malformed-exactly : (c : Call) (s : Session) → refusedWith 15 ((step c s) .answer) ≡ unreadable c s
-malformed-exactly (append d out) s = other-number _ (only-table-numbers (append d out) s)
-malformed-exactly (flush out) s = other-number _ (only-table-numbers (flush out) s)
-malformed-exactly (finalise out) s = other-number _ (only-table-numbers (finalise out) s)
-malformed-exactly (nextRequest out) s = other-number _ (only-table-numbers (nextRequest out) s)
-malformed-exactly close s = other-number _ (only-table-numbers close s)
-malformed-exactly sendFailed s = other-number _ (only-table-numbers sendFailed s)
-malformed-exactly (response m) s = other-number _ (only-table-numbers (response m) s)
-malformed-exactly (handshake m) s = other-number _ (only-table-numbers (handshake m) s)
-malformed-exactly (judge v) s = other-number _ (only-table-numbers (judge v) s)
+malformed-exactly (append d out) s = other-number 15 (numbersOf (append d out)) _ refl (only-table-numbers (append d out) s)
+malformed-exactly (flush out) s = other-number 15 (numbersOf (flush out)) _ refl (only-table-numbers (flush out) s)
+malformed-exactly (finalise out) s = other-number 15 (numbersOf (finalise out)) _ refl (only-table-numbers (finalise out) s)
+malformed-exactly (nextRequest out) s = other-number 15 (numbersOf (nextRequest out)) _ refl (only-table-numbers (nextRequest out) s)
+malformed-exactly close s = other-number 15 (numbersOf close) _ refl (only-table-numbers close s)
+malformed-exactly sendFailed s = other-number 15 (numbersOf sendFailed) _ refl (only-table-numbers sendFailed s)
+malformed-exactly (response m) s = other-number 15 (numbersOf (response m)) _ refl (only-table-numbers (response m) s)
+malformed-exactly (handshake m) s = other-number 15 (numbersOf (handshake m)) _ refl (only-table-numbers (handshake m) s)
+malformed-exactly (judge v) s = other-number 15 (numbersOf (judge v)) _ refl (only-table-numbers (judge v) s)
 malformed-exactly (break b) s = break-exactly b s
 malformed-exactly (failedAttempt b v) s = attempt-exactly b v s
