@@ -18,7 +18,7 @@ use Rattle.rules.specs.Step.{step}
 use Rattle.ring.specs.Ring.{Within}
 use Rattle.ring.proofs.Laws.{take-part}
 use Rattle.coalescing_buffer.specs.Held.{Extends}
-use Rattle.coalescing_buffer.proofs.Laws.{length-held, takes-is, holds-is, cuts-is}
+use Rattle.coalescing_buffer.proofs.Laws.{takes-is, holds-is, cuts-is}
 use Rattle.replay_buffer.specs.View.{queueOf}
 use Rattle.worker.specs.View.{workerOf}
 use Rattle.bidi_write.specs.Refusal.{numberOf}
@@ -40,7 +40,7 @@ use Rattle.rules.proofs.Tests.{clash}
 use Rattle.bidi_write.proofs.Rows as Rows
 use Rattle.transport.proofs.First.{some-offered, first-goes}
 use Rattle.transport.proofs.Refused as Refused
-use Rattle.transport.proofs.Numbers.{full-is, slot-is}
+use Rattle.transport.proofs.Numbers.{held-length, full-is, slot-is}
 use Rattle.cuts.proofs.Passing.{cuttable, past-is}
 
 no-refusal : (n : ℕ) (m : MaybeRequest) (x : Refusal) → answer.Took n m ≡ answer.Refused x → ⊥
@@ -140,7 +140,7 @@ module _ (s : Session) (store : Bytes) (table : List ℕ) (out : Bytes) (g : Gua
   fills-is = cuts-is (s .limit) (lentOf s .size) (s .worker .«replay_buffer» .head) stored (s .held) store (g .store-lent) held-in d n taken
 
   length-held-is : length (heldOf s store) ≡ s .held
-  length-held-is = length-held (s .limit) (lentOf s .size) (s .worker .«replay_buffer» .head) stored (s .held) store (g .store-lent) held-in
+  length-held-is = held-length s store (length table) g
 
   length-holding : length (U.holding d rule) ≡ s .held + n
   unfolding view

@@ -16,7 +16,6 @@ use Rattle.rules.specs.Session as R
 use Rattle.rules.specs.Upload as U
 use Rattle.rules.specs.Notes.{contentOf, dataIn}
 use Rattle.rules.specs.Step.{step}
-use Rattle.coalescing_buffer.proofs.Laws.{length-held}
 use Rattle.bidi_write.specs.View.{checksumOf, lengthOf, requestOf}
 use Rattle.worker.specs.View.{kindOf, pendingOf, waitersOf, workerOf}
 use Rattle.worker.specs.declared.PendingKind.{PendingKind}
@@ -43,7 +42,7 @@ use Rattle.bidi_write.proofs.Rows as Rows
 use Rattle.transport.proofs.First.{first-goes}
 use Rattle.transport.proofs.Refused as Refused
 use Rattle.transport.proofs.Views.{no-cursor, live-no-replay}
-use Rattle.transport.proofs.Numbers.{full-is, slot-is, waiters-are}
+use Rattle.transport.proofs.Numbers.{held-length, full-is, slot-is, waiters-are}
 use Rattle.transport.proofs.Ends.{guarded-waiting}
 use Rattle.cuts.proofs.Passing.{passes, cuttable, past-is}
 
@@ -128,9 +127,7 @@ module _ (k : PendingKind) (s : Session) (store : Bytes) (table : List ℕ) (out
   first on = first-goes (callOf k (length out)) s store table (never-empty k (length out)) on g
 
   length-held-is : length (heldOf s store) ≡ s .held
-  length-held-is =
-      length-held (s .limit) (lentOf s .size) (s .worker .«replay_buffer» .head) (s .worker .«replay_buffer» .«unpersisted_bytes») (s .held) store (g .store-lent)
-      (omega (arith, g))
+  length-held-is = held-length s store (length table) g
 
   held-is : heldAt rule ≡ not (eqb (s .held) 0)
   unfolding view

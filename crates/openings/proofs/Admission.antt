@@ -4,12 +4,12 @@ use mathlib.Core.Path.{_≡_, refl, sym, _∙_}
 use mathlib.Core.Bool.{Bool, true, false, not, cond, _&&_, _||_}
 use mathlib.Core.Option.{Option, Option·getD}
 use mathlib.Core.List.{[], _∷_}
-use Prim.Native.Nat.{ℕ, _+_, _*_, _<_, _≤_, max}
+use Prim.Native.Nat.{ℕ, _+_, _*_, _≤_, max}
 use native.Mathlib.Omega.{arith}
 use borrow.Author.Tests.{not-false, ltb-false, leb-true, eqb-false}
 use lib.Dec.{ltb, eqb}
 use lib.ListN.{length}
-use Rattle.rules.specs.Limits.{maxChunk, maxCapacity, defaultCapacity, storeSize}
+use Rattle.rules.specs.Limits.{defaultCapacity, storeSize}
 use Rattle.rules.specs.Message as M
 use Rattle.rules.specs.Message.{Bytes}
 use Rattle.rules.specs.Spec as S
@@ -24,6 +24,7 @@ use Rattle.bidi_write.specs.declared.Check.the-variants as check
 use Rattle.bidi_write.specs.declared.Refusal.the-variants as refusal
 use Rattle.state.specs.View.{conditionOf, opened}
 use Rattle.admission.specs.Rows.{badLimits, openRows}
+use Rattle.admission.proofs.Limits.{within-limits}
 use Rattle.openings.specs.Opening.{Beside, askedOf, openingOf, Admits}
 use Rattle.openings.specs.declared.Opening.{Opening}
 
@@ -37,12 +38,6 @@ good-length b h = leb-true (length b) 256 (and-right (O.startsWith O.bucketPrefi
 pub not-over : (n : ℕ) (present : Bool) (b : Bytes) → M.over n (given present b) ≡ false → O.payloadLength (given present b) ≤ n
 not-over n true b h = ltb-false n (length b) h
 not-over n false b h = omega arith
-
-pub within-limits : (limit asked : ℕ) → badLimits limit asked ≡ false → (0 < limit) × (limit ≤ maxChunk) × (asked ≤ maxCapacity)
-within-limits limit asked h =
-    let e : (eqb limit 0 || ltb maxChunk limit) ≡ false = or-no-left _ _ h in
-    let some : limit ≡ 0 → ⊥ = eqb-false limit 0 (or-no-left _ _ e) in
-    (omega (arith, some), ltb-false maxChunk limit (or-no-right (eqb limit 0) _ e), ltb-false maxCapacity asked (or-no-right (eqb limit 0 || ltb maxChunk limit) _ h))
 
 -- ---- rows
 

@@ -10,12 +10,13 @@ use lib.IntN.{pos}
 use lib.Dec.{leb, eqb}
 use Rattle.rules.specs.Message.{Bytes}
 use Rattle.rules.specs.Session as R
+use Rattle.ring.proofs.Laws.{length-part}
 use Rattle.replay_buffer.specs.View.{Fits}
 use Rattle.replay_buffer.proofs.Laws.{stored-bytes, length-queue}
 use Rattle.worker.specs.View.{workerOf}
 use Rattle.worker.proofs.Waiters.{isNil-is}
 use Rattle.bidi_write.proofs.Signs.{pos-back}
-use Rattle.transport.specs.View.{lentOf, endOf, view}
+use Rattle.transport.specs.View.{lentOf, endOf, heldOf, view}
 use Rattle.transport.specs.Valid.{GuardedAt, Valid}
 use Rattle.transport.specs.declared.Session.{Session}
 
@@ -32,6 +33,10 @@ fits s store table g = record {
   end-in = g .offset-top;
   size-in = omega (arith, g);
 }
+
+pub held-length : (s : Session) (store : Bytes) (table : ℕ) → GuardedAt s (length store) table → length (heldOf s store) ≡ s .held
+held-length s store table g =
+    length-part (lentOf s .size) (s .worker .«replay_buffer» .head) store (g .store-lent) (s .worker .«replay_buffer» .«unpersisted_bytes») (s .held) (omega (arith, g))
 
 module _ (s : Session) (store : Bytes) (table : List ℕ) (v : Valid s store table) where
   pub offset-is : s .«write_offset» .0 ≡ pos (endOf s)

@@ -2,7 +2,8 @@
 use mathlib.Core.Path.{sym, _∙_}
 use native.Mathlib.Omega.{arith}
 use borrow.Author.Needs.{needs}
-use Rattle.openings.proofs.Admission.{within-limits, limits-refuse, rows-admit}
+use Rattle.admission.proofs.Limits.{within-limits}
+use Rattle.openings.proofs.Admission.{limits-refuse, rows-admit}
 use Rattle.openings.proofs.admit.Statement.{statement}
 use Rattle.openings.proofs.admit.Tie as tie
 
