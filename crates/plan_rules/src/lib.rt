@@ -1,0 +1,1 @@
+// What a list of append lengths will need: definitions and proofs only.
