@@ -24,6 +24,7 @@ numberOf refusal.Closed = 12
 numberOf refusal.BadVerdict = 13
 numberOf refusal.ShortBuffer = 14
 numberOf refusal.Malformed = 15
+numberOf refusal.TooManyEntries = 16
 
 abbrev pub Rows : Type 0
 Rows = List (Bool × Refusal)

@@ -144,7 +144,7 @@ pub enum Call {
     FailedAttempt(Break, u8),
 }
 
-// Why a call was refused: the papers' numbers 1 to 15, in their order.
+// Why a call was refused: the papers' numbers 1 to 16, in their order.
 pub enum Refusal {
     Limits,
     ShortMemory,
@@ -161,6 +161,7 @@ pub enum Refusal {
     BadVerdict,
     ShortBuffer,
     Malformed,
+    TooManyEntries,
 }
 
 // Whether a call goes on.
@@ -298,6 +299,7 @@ pub fn refusal_number(x: Refusal) -> u64
         Refusal::BadVerdict => 13,
         Refusal::ShortBuffer => 14,
         Refusal::Malformed => 15,
+        Refusal::TooManyEntries => 16,
     }
 }
 
