@@ -1,6 +1,7 @@
 -- The claims for an opening and any list of turns of the host's calls of which only what their `ensures` say is known.
 -- Assumes nothing.
-use mathlib.Core.Path.{_≡_, sym, ap, _∙_, subst}
+use mathlib.Core.Path.{_≡_, refl, sym, ap, _∙_, subst}
+use mathlib.Core.Option.{some}
 use mathlib.Core.List.{List}
 use Prim.Native.Nat.{ℕ}
 use native.Mathlib.Omega.{arith}
@@ -14,21 +15,29 @@ use Rattle.rules.specs.More.{HoldsMore}
 use Rattle.rules.specs.Total as total
 use Rattle.rules.specs.Past.{PastEnd}
 use Rattle.rules.specs.Released.{Accounted, MayDrop, ReleasedBy}
-use Rattle.rules.specs.Calls.{begin, HoldsCalled}
+use Rattle.rules.specs.Calls.{begin, HoldsCalled, leftBy}
 use Rattle.rules.specs.Notes.{releasedIn}
 use Rattle.rules.proofs.Program as rules
 use Rattle.rules.proofs.Refused.{malformed-exactly}
 use Rattle.rules.proofs.Past.{beyond-exactly}
 use Rattle.rules.proofs.Released as freed
+use Rattle.plan_rules.specs.Plan.{begins}
+use Rattle.plan_rules.specs.Claims.{NeverRefused}
+use Rattle.plan_rules.proofs.Counting.{plan-is}
+use Rattle.plan_rules.proofs.Drives.{driven-left}
+use Rattle.plan_rules.proofs.Planned.{program-shows}
+use Rattle.plan_rules.proofs.Enough.{never-refused}
 use Rattle.bidi_write.specs.View.{given}
 use Rattle.transport.specs.View.{view, answerOf}
 use Rattle.transport.specs.Valid.{Valid}
 use Rattle.transport.specs.Promise.{Promise, Promised, PromisedAt}
+use Rattle.transport.specs.Claim as core
 use Rattle.transport.specs.Claim.{Memory, viewOf, ValidAt, Does, Promises}
 use Rattle.transport.specs.declared.Session.{Session}
 use Rattle.transport.specs.declared.Outcome.{Outcome}
+use Rattle.transport.proofs.Claim as promises
 use Rattle.transport.proofs.Claim.{bound-of}
-use Rattle.transport.proofs.Numbers.{stored-is}
+use Rattle.transport.proofs.Numbers.{held-length, stored-is, chunks-are}
 use Rattle.transport.proofs.Views.{released-is}
 use Rattle.openings.specs.Opening.{openingOf, releasedAt}
 use Rattle.openings.specs.declared.OpenAnswer.{OpenAnswer}
@@ -38,6 +47,7 @@ use Rattle.claims.specs.Sendable.{AlwaysSendable}
 use Rattle.claims.specs.Malformed.{AlwaysMalformed}
 use Rattle.claims.specs.Past.{AlwaysPast}
 use Rattle.claims.specs.Released.{storedIn, AlwaysReleased, AlwaysOpeningReleased}
+use Rattle.claims.specs.Plan.{AlwaysPlanned}
 use Rattle.claims.proofs.Sendable.{handed-out-reads}
 
 -- a promise at memory that is the same
@@ -155,3 +165,38 @@ host-opening-released o m b =
     let payload : O.payloadLength (given (b .opening .«has_payload») (b .beside .payload)) ≡ O.payloadLength (o .payload)
     = ap (λ (x : O.Opening). O.payloadLength (x .payload)) (b .given) in
     record { payload = omega (arith, freed.opening-released o (viewOf m) ((begun o m b) .1)); noted = sym number }
+
+-- ---- what a list of append lengths needs
+
+held-are : (m : Memory) → ValidAt m → length (viewOf m .writer .held) ≡ m .session .held
+unfolding view
+held-are m v = held-length (m .session) (m .store) (length (m .table)) (v .guarded)
+
+-- of any calls that keep what is valid
+module _ (Does′ : R.Call → Memory → R.Answer → Memory → Type 0) (Begins′ : O.Opening → Memory → Type 0)
+    (keeps′ : (c : R.Call) (m : Memory) (a : R.Answer) (m′ : Memory) → Does′ c m a m′ → ValidAt m → ValidAt m′ × (R.answers a (viewOf m′) ≡ step c (viewOf m)))
+    (begun′ : (o : O.Opening) (m : Memory) → Begins′ o m → ValidAt m × (O.opens o ≡ O.opened (viewOf m))) where
+  planned-of : AlwaysPlanned Does′ Begins′
+  planned-of o m b plain ts a ls d g =
+      let end : Memory = leftBy viewOf Does′ ts m in
+      let valid : ValidAt end = (rules.program-left viewOf Does′ Begins′ ValidAt keeps′ begun′ o m b ts a) .valid in
+      let left : d .session ≡ viewOf end = driven-left viewOf Does′ ts ls m (begins (viewOf m)) d refl g in
+      program-shows viewOf Does′ Begins′ ValidAt begun′ keeps′ o m b plain ts a ls d g
+      ∙ ap some (plan-is
+      (ap (λ (s : R.Session). length (R.chunks s)) left ∙ chunks-are (end .session) (end .store) (end .table) valid)
+      (ap R.stored left ∙ stored-is (end .session) (end .store) (end .table) valid)
+      (ap (λ (s : R.Session). length (s .writer .held)) left ∙ held-are end valid)
+      refl refl)
+
+pub program-planned : AlwaysPlanned (Does Promises) core.Begins
+program-planned = planned-of (Does Promises) core.Begins promises.keeps promises.begun
+
+pub host-planned : AlwaysPlanned (Does Ensures) Begins
+host-planned = planned-of (Does Ensures) Begins keeps begun
+
+-- where enough is lent, no call that is made for the list is refused
+pub program-enough : NeverRefused viewOf (Does Promises) core.Begins
+program-enough = never-refused viewOf (Does Promises) ValidAt promises.keeps core.Begins promises.begun
+
+pub host-enough : NeverRefused viewOf (Does Ensures) Begins
+host-enough = never-refused viewOf (Does Ensures) ValidAt keeps Begins begun

@@ -20,6 +20,8 @@ use Rattle.rules.specs.Server.{Stored, alone}
 use Rattle.rules.specs.World.{World, Event, callIn, hostCalls, hostHands, serverTakes, serverPersists, serverSays, ServerAt, start}
 use Rattle.rules.specs.Demand3.{Holds}
 use Rattle.rules.specs.Program.{Turn, Did, AllDid, ran}
+use Rattle.rules.specs.Calls.{CallTurn}
+use Rattle.plan_rules.specs.Plan.{planned}
 use Rattle.rules.proofs.Evidence.Computed.{computed}
 use Rattle.rules.proofs.Tests.{clash}
 use Rattle.ring.specs.Ring.{rot, part}
@@ -55,7 +57,7 @@ use Rattle.openings.specs.declared.Opening.{Opening}
 use Rattle.openings.specs.declared.OpenAnswer.the-variants as open-answer
 use Rattle.session.specs.Lent.{outcome}
 use Rattle.claims.specs.Claim.{Ensures, Begins}
-use Rattle.claims.proofs.Claim.{host-demand3}
+use Rattle.claims.proofs.Claim.{host-demand3, host-planned}
 use Rattle.claims.proofs.Tied.{ensures-all, opens-all}
 
 -- ---- the opening
@@ -360,3 +362,14 @@ met-released = refl
 -- so the claims speak of this run
 pub met-holds : Holds (ran viewOf (Does Ensures) turns world)
 met-holds = host-demand3 given opened met-begins empty met-server turns met
+
+-- ---- its append drives the list of one length, and the record shows the plan
+
+abbrev driving : List (CallTurn viewOf (Does Ensures))
+driving = record { call = append; answer = answerOf cut (97 ∷ []); left = stored } ∷ []
+
+pub met-planned : planned 1 (1 ∷ []) ≡ some (record { chunks = 1; stored = 1; held = 0; appends = 1; flushes = 0 })
+unfolding openingOf view
+met-planned =
+    host-planned given opened met-begins (record { at-zero = refl; bare = refl }) driving (met-append, tt) (1 ∷ [])
+    (record { session = viewOf stored; appends = 1; flushes = 0 }) refl

@@ -3,3 +3,4 @@ pub mod Sendable
 pub mod Malformed
 pub mod Past
 pub mod Released
+pub mod Plan

@@ -18,11 +18,11 @@ use Rattle.transport.specs.View.{view}
 use Rattle.transport.specs.Claim.{Memory, viewOf, ValidAt, Does, Promises, Begins, Always, AlwaysCalled, StoredBound}
 use Rattle.transport.proofs.Numbers.{stored-is}
 
-keeps : (c : R.Call) (m : Memory) (a : R.Answer) (m′ : Memory) → Does Promises c m a m′ → ValidAt m
+pub keeps : (c : R.Call) (m : Memory) (a : R.Answer) (m′ : Memory) → Does Promises c m a m′ → ValidAt m
     → ValidAt m′ × (R.answers a (viewOf m′) ≡ step c (viewOf m))
 keeps c m a m′ d p = (d .says .stays p, ap (λ (x : R.Answer). R.answers x (viewOf m′)) (sym (d .answer-is)) ∙ d .says .steps p)
 
-begun : (o : Opening) (m : Memory) → Begins o m → ValidAt m × (opens o ≡ opened (viewOf m))
+pub begun : (o : Opening) (m : Memory) → Begins o m → ValidAt m × (opens o ≡ opened (viewOf m))
 begun o m b = (b .valid, b .opens-is)
 
 pub program-demand3 : Always (λ o k w. Holds w)
