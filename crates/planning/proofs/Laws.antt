@@ -4,7 +4,7 @@ use mathlib.Core.Bool.{Bool, true, false, cond, _||_}
 use mathlib.Core.Option.{Option·map, some}
 use mathlib.Core.List.{List}
 use Prim.Native.Nat.{ℕ, zero, suc, _+_, _*_, _-_, _/_, _%_, _^_, _≤_, _<_}
-use native.Mathlib.Nat.{suc-mul, mod-lt, div-add-mod', div-eq-of-lt, mod-eq-of-lt, mul-add-div-right, mul-add-mod-self-right}
+use native.Mathlib.Nat.{suc-mul, mod-lt, div-add-mod', div-eq-of-lt, mod-eq-of-lt, div-eq-sub-div, mul-add-div-right, mul-add-mod-self-right, add-mul}
 use native.Mathlib.Numerals.{add-one}
 use native.Mathlib.Omega.{arith}
 use lib.Dec.{eqb, ltb}
@@ -46,29 +46,38 @@ pub times-most : (q C : ℕ) → 0 < C → q ≤ q * C
 times-most zero C z = omega arith
 times-most (suc q) C z = omega (arith, times-most q C z, suc-mul q C)
 
--- by the entry's own quotient w and rest r, as the code has them, with C as c
-module _ (C n w c r : ℕ) (z : 0 < C) (w-is : w ≡ n / C) (c-is : c ≡ C) (r-is : r ≡ n - n / C * C) where
-  whole-is : w * c ≡ n / C * C
-  whole-is = rw (w-is, c-is) refl
+pub below-two : (n C : ℕ) → C ≤ n → n < 2 * C → 1 ≡ n / C
+below-two n C l m = sym (div-eq-sub-div (omega arith) l ∙ ap (λ (k : ℕ). k + 1) (div-eq-of-lt (omega arith)) ∙ omega arith)
 
-  more-is : (w + 1) * c ≡ n / C * C + C
-  more-is = rw (w-is, c-is) (omega (arith, suc-mul (n / C) C))
+-- by the entry's own rest r and quotient w, as the code has them, with C as c, and the chunks m that held bytes and rest fill
+module _ (C h n c r : ℕ) (below : h < C) (c-is : c ≡ C) (r-is : r ≡ n - n / C * C) where
+  some-limit : 0 < C
+  some-limit = omega arith
 
-  pub whole-fits : n < 2 ^ 32 → (w < 2 ^ 33) × (w * c < 2 ^ 33)
-  whole-fits l = (omega (arith, times-most w c (omega arith), whole-is, quotient-most n C), omega (arith, whole-is, quotient-most n C))
+  pub rest-below : h + r < 2 * c
+  rest-below = omega (arith, div-add-mod' n C, mod-lt n some-limit)
 
-  pub more-fits : n < 2 ^ 32 → C < 2 ^ 32 → (w + 1 < 2 ^ 33) × ((w + 1) * c < 2 ^ 33)
-  more-fits l m = (omega (arith, (whole-fits l) .0, times-most w c (omega arith), whole-is, quotient-most n C), omega (arith, more-is, quotient-most n C))
+  module _ (w m : ℕ) (w-is : w ≡ n / C) (m-is : m ≡ (h + r) / c) where
+    whole-is : (w + m) * c ≡ n / C * C + (h + r) / C * C
+    whole-is = rw (m-is, w-is, c-is) (add-mul (n / C) ((h + r) / C) C)
 
-  pub append-whole : (p : Plan) → 0 < n → p .held + r < c → appended c w (p .held + r) p ≡ counted C n p
-  append-whole p y l =
-      ap (λ (k : ℕ). appended k w (p .held + r) p) c-is
-      ∙ append-counted C n w (p .held + r) p y (omega (arith, whole-is, ap (λ (k : ℕ). w * k) c-is, quotient-most n C)) (omega arith)
+    filled-is : m * c ≡ (h + r) / C * C
+    filled-is = rw (m-is, c-is) refl
 
-  pub append-more : (p : Plan) → 0 < n → p .held < C → c ≤ p .held + r → appended c (w + 1) (p .held + r - c) p ≡ counted C n p
-  append-more p y h l =
-      ap (λ (k : ℕ). appended k (w + 1) (p .held + r - c) p) c-is
-      ∙ append-counted C n (w + 1) (p .held + r - c) p y (omega (arith, more-is, ap (λ (k : ℕ). (w + 1) * k) c-is, quotient-most n C)) (omega (arith, div-add-mod' n C, mod-lt n z))
+    pub filled-most : m * c ≤ h + r
+    filled-most = omega (arith, filled-is, quotient-most (h + r) C)
+
+    pub whole-fits : n < 2 ^ 32 → C < 2 ^ 32 → (w + m < 2 ^ 33) × ((w + m) * c < 2 ^ 33)
+    whole-fits l k =
+        let most : (w + m) * c < 2 ^ 33 = omega (arith, whole-is, quotient-most (h + r) C, quotient-most n C) in
+        (omega (arith, times-most (w + m) c (omega arith)), most)
+
+    pub append-whole : (p : Plan) → p .held ≡ h → 0 < n → appended c (w + m) (h + r - m * c) p ≡ counted C n p
+    append-whole p e y =
+        ap (λ (k : ℕ). appended k (w + m) (h + r - m * c) p) c-is
+        ∙ append-counted C n (w + m) (h + r - m * c) p y
+        (omega (arith, whole-is, ap (λ (k : ℕ). (w + m) * k) c-is, filled-is, quotient-most (h + r) C, quotient-most n C))
+        (omega (arith, filled-is, div-add-mod' (h + r) C, mod-lt (h + r) some-limit))
 
 -- ---- the loop
 

@@ -1,7 +1,7 @@
 // What a list of appends and flushes will need, by arithmetic: no session is run, and no byte is looked at.
 ghost use mathlib.Core.Path.{_≡_};
 ghost use mathlib.Core.Option.{some};
-ghost use Prim.Native.Nat.{_*_, _^_, _≤_, _<_};
+ghost use Prim.Native.Nat.{_*_, _/_, _^_, _≤_, _<_};
 ghost use lib.ListN.{length};
 ghost use Rattle.plan_rules.specs.Plan.{plans};
 ghost use Rattle.plan_rules.specs.Counting.{oneFor, nothingYet, flushed, appended, counted, countedAll};
@@ -106,11 +106,20 @@ fn append(limit: u32, needs: Needs, n: u32) -> Needs
     let rest = n - whole * limit;
     let left = needs.held + wide(rest);
     let limit = wide(limit);
-    let whole = wide(whole);
-    if left < limit {
-        return cut(limit, needs, whole, left);
+    let more = filled(left, limit);
+    cut(limit, needs, wide(whole) + more, left - more * limit)
+}
+
+// The chunks that fewer than two chunks' bytes fill: a number, so that no jump asks which.
+fn filled(bytes: u64, limit: u64) -> u64
+    requires { ⌜ bytes < 2 * limit ⌝ }
+    ensures { λ r. ⌜ r ≡ bytes / limit ⌝ }
+    ensures { λ r. ⌜ r ≤ 1 ⌝ }
+{
+    if bytes < limit {
+        return 0;
     }
-    cut(limit, needs, whole + 1, left - limit)
+    1
 }
 
 // Each whole chunk takes a call, and so does what is left over.
