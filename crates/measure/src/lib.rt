@@ -1,14 +1,29 @@
-// The checksum, its join and a request's bytes for a program in C or Rust to time (tools/performance). Whole uploads are timed through the program `bench`:
-// what such a program calls may hold no enum, so no session can be driven through an export and be promised by the rules.
+// The checksum, its join, a request's bytes and a plan for a program in C or Rust to time (tools/performance). Whole uploads are timed through the program
+// `bench`: what such a program calls may hold no enum, so no session can be driven through an export and be promised by the rules.
 ghost use mathlib.Core.Path.{_≡_};
+ghost use mathlib.Core.Option.{some};
 ghost use Rattle.crc32c.specs.Reg.{crcOf, joined};
-ghost use Rattle.measure.specs.Plain.{dataOf, checksumOf, requestOf, countOf, Wrote};
+ghost use Rattle.planning.specs.Answer.{answerOf};
+ghost use Rattle.measure.specs.Plain.{dataOf, checksumOf, requestOf, countOf, Wrote, numbersOf, plannedNumbers};
 use bidi_write::Checksum;
 use bidi_write::ChecksummedData;
 use bidi_write::Data;
 use bidi_write::Offset;
 use bidi_write::Request;
+use bidi_write::refusal_number;
+use planning::PlanAnswer;
 use wire::WriteAnswer;
+
+// What a plan answers: the refusal's number, or 0 and what is needed.
+#[repr(C)]
+pub struct PlanNumbers {
+    pub refused: u64,
+    pub chunks: u64,
+    pub stored: u64,
+    pub held: u64,
+    pub appends: u64,
+    pub flushes: u64,
+}
 
 #[no_mangle]
 pub extern "C" fn michqoya_crc32c(bytes: &[u8]) -> u32
@@ -77,5 +92,37 @@ fn count(answer: WriteAnswer) -> usize
     match answer {
         WriteAnswer::Refused(_) => usize::MAX,
         WriteAnswer::Wrote(n) => n,
+    }
+}
+
+// Where it refuses, the needs are 0.
+#[no_mangle]
+pub extern "C" fn michqoya_plan(limit: usize, lengths: &[u32]) -> PlanNumbers
+    ensures { λ r. ⌜ plannedNumbers limit (now (lengths .entry)) ≡ some r ⌝ }
+{
+    let answer = planning::plan(limit, lengths);
+    numbers(answer)
+}
+
+fn numbers(answer: PlanAnswer) -> PlanNumbers
+    ensures { λ r. ⌜ r ≡ numbersOf (answerOf answer) ⌝ }
+{
+    match answer {
+        PlanAnswer::Refused(x) => PlanNumbers {
+            refused: refusal_number(x),
+            chunks: 0,
+            stored: 0,
+            held: 0,
+            appends: 0,
+            flushes: 0,
+        },
+        PlanAnswer::Planned(n) => PlanNumbers {
+            refused: 0,
+            chunks: n.chunks,
+            stored: n.stored,
+            held: n.held,
+            appends: n.appends,
+            flushes: n.flushes,
+        },
     }
 }

@@ -1,9 +1,10 @@
-//! performance BENCH FOLDER: the same uploads through the crate's own buffers and through the session as the program bench, in one run. Prints the tables
-//! of docs/PERFORMANCE.md. The folder is for the program's input.
+//! performance BENCH FOLDER: the same uploads through the crate's own buffers and through the session as the program bench, in one run, and plans. Prints
+//! the tables of docs/PERFORMANCE.md. The folder is for the program's input.
 mod google;
 mod journal;
 mod memory;
 mod ours;
+mod plans;
 mod theirs;
 mod time;
 
@@ -14,7 +15,7 @@ use std::cell::RefCell;
 use std::env;
 use std::hint::black_box;
 use std::path::{Path, PathBuf};
-use time::side_by_side;
+use time::{rounds, side_by_side};
 
 #[global_allocator]
 static MEMORY: memory::Counting = memory::Counting;
@@ -127,6 +128,23 @@ fn wire_row(name: &str, request: &BidiWriteObjectRequest, often: u32) {
     println!("| {name} | {:.1} | {:.1} | {:.2} |", theirs / n, ours / n, ours / theirs);
 }
 
+/// In a round each list is planned once.
+fn plan_row(lists: &plans::Lists) {
+    for list in lists.each() {
+        assert_eq!(ours::plan(lists.limit, list), plans::obvious(lists.limit, list));
+    }
+    let all = |plan: fn(usize, &[u32]) -> ours::PlanNumbers| {
+        for list in lists.each() {
+            black_box(plan(lists.limit, list));
+        }
+    };
+    let (obvious, plan) = rounds(|| all(plans::obvious), || all(ours::plan));
+    let us = |ns: f64| ns / plans::LISTS as f64 / 1000.0;
+    let (theirs, ours, median) = (us(obvious[0]), us(plan[0]), us(plan[plan.len() / 2]));
+    let an_entry = 1000.0 * ours / plans::ENTRIES as f64;
+    println!("| {} | {theirs:.0} | {ours:.0} | {median:.0} | {an_entry:.2} | {:.2} |", lists.name, ours / theirs);
+}
+
 fn memory_row(u: &Upload, data: &Bytes, sizes: &ours::Sizes) {
     let data = data.slice(..u.bytes);
     let peak = memory::peak_of(|| {
@@ -160,6 +178,10 @@ fn main() {
     wire_row("finalise, with the object's sum", &finalise_request(), 100_000);
     wire_row("6,000 bytes of data", &chunk_request(data.slice(..6000)), 20_000);
     wire_row("2,097,152 bytes of data", &chunk_request(data.slice(..2 * MIB)), 20);
+    println!("\n| 65,536 entries | the obvious loop, µs | planning::plan, µs | its median, µs | ns an entry | ratio |\n|---|---|---|---|---|---|");
+    for lists in &plans::lists() {
+        plan_row(lists);
+    }
     println!(
         "\n| upload | the crate: allocated at most | allocations | caller's bytes kept at most | the session: lent | ratio |\n|---|---|---|---|---|---|"
     );

@@ -1,5 +1,5 @@
-//! The session, as the program `bench`: a whole upload as the records that it reads, in a process of its own. The sum, the join and a request's bytes come
-//! from a static library.
+//! The session, as the program `bench`: a whole upload as the records that it reads, in a process of its own. The sum, the join, a request's bytes and a plan
+//! come from a static library.
 use crate::Upload;
 use crate::google::storage::v2::{BidiWriteObjectRequest, bidi_write_object_request::Data};
 use bytes::Bytes;
@@ -25,6 +25,7 @@ unsafe extern "C" {
         buffer: *mut u8,
         room: usize,
     ) -> usize;
+    fn michqoya_plan(limit: usize, lengths: *const u32, count: usize) -> PlanNumbers;
 }
 
 pub fn crc32c(bytes: &[u8]) -> u32 {
@@ -33,6 +34,22 @@ pub fn crc32c(bytes: &[u8]) -> u32 {
 
 pub fn combine(crc1: u32, crc2: u32, len2: usize) -> u32 {
     unsafe { michqoya_combine(crc1, crc2, len2 as u64) }
+}
+
+/// A refusal's number, or 0 and what a list needs.
+#[repr(C)]
+#[derive(Debug, Default, PartialEq)]
+pub struct PlanNumbers {
+    pub refused: u64,
+    pub chunks: u64,
+    pub stored: u64,
+    pub held: u64,
+    pub appends: u64,
+    pub flushes: u64,
+}
+
+pub fn plan(limit: usize, lengths: &[u32]) -> PlanNumbers {
+    unsafe { michqoya_plan(limit, lengths.as_ptr(), lengths.len()) }
 }
 
 /// A request's fields, as `wire::write` takes them.

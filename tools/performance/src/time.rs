@@ -30,14 +30,22 @@ fn spent_by(who: i32) -> f64 {
 const WARM_UP: usize = 3;
 const ROUNDS: usize = 25;
 
-/// Nanoseconds of the fastest round of each: a round of one follows a round of the other. What else the machine does only adds to a round.
-pub fn side_by_side(mut one: impl FnMut(), mut other: impl FnMut()) -> (f64, f64) {
+/// Nanoseconds of the fastest round of each. What else the machine does only adds to a round.
+pub fn side_by_side(one: impl FnMut(), other: impl FnMut()) -> (f64, f64) {
+    let (one, other) = rounds(one, other);
+    (one[0], other[0])
+}
+
+/// Nanoseconds of the rounds of each, the fastest first: a round of one follows a round of the other.
+pub fn rounds(mut one: impl FnMut(), mut other: impl FnMut()) -> (Vec<f64>, Vec<f64>) {
     for _ in 0..WARM_UP {
         one();
         other();
     }
-    let rounds = (0..ROUNDS).map(|_| (nanoseconds(&mut one), nanoseconds(&mut other)));
-    rounds.fold((f64::MAX, f64::MAX), |least, round| (least.0.min(round.0), least.1.min(round.1)))
+    let (mut ones, mut others): (Vec<f64>, Vec<f64>) = (0..ROUNDS).map(|_| (nanoseconds(&mut one), nanoseconds(&mut other))).unzip();
+    ones.sort_by(f64::total_cmp);
+    others.sort_by(f64::total_cmp);
+    (ones, others)
 }
 
 fn nanoseconds(f: &mut impl FnMut()) -> f64 {
