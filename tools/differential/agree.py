@@ -52,7 +52,7 @@ def answers(output):
     """what each call answered, in a line; of an end the cause too, and what was released"""
     shown = []
     for lines in calls(output):
-        _, end, cause = next((line for line in reversed(lines) if line.startswith(b"  st ")), b"").partition(b" cause=")
+        _, end, cause = lines[-1].partition(b" cause=")
         answer = lines[0] + b" " + cause if end and lines[0].endswith(b" end") else lines[0]
         shown.append(b"".join([answer] + [line[1:] for line in lines if line.startswith(b"  rl ")]))
     return b", ".join(shown).decode("latin1")

@@ -54,7 +54,7 @@ def state_of(opening, output):
 # ---- arguments
 
 
-def opening(rng, odd=0.05):
+def opening(rng):
     limit = rng.choice([1, 2, 2, 3, 4, 4, 4, 5, 7, 8, 16] if rng.random() < 0.99 else [100, 1000, 8192])
     payload = rng.randbytes(rng.choice([0, 1, limit // 2, limit])) if rng.random() < 0.4 else None
     size = opening_size(rng, limit, len(payload or b""))
@@ -75,7 +75,7 @@ def opening(rng, odd=0.05):
         slots=rng.choice([64] * 14 + [1, 2, 3]),
         out=rng.choice([8192] * 24 + [limit, limit - 1]),
     )
-    if rng.random() < odd:
+    if rng.random() < 0.05:
         o.update(odd_opening(rng, limit))
     return Opening(**o)
 

@@ -6,7 +6,7 @@ import subprocess
 from .messages import handed_out, read_back
 
 # behind a script; a token may hold an empty line too
-END = re.compile(rb"\n\n(?=OP |PO |\Z)")
+END = re.compile(rb"\n\n(?=OP |\Z)")
 
 
 class Program:

@@ -135,14 +135,14 @@ module _ (s : Session) (store : Bytes) (table : List ℕ) (out : Bytes) (g : Gua
   unfolding view
   room_is = takes_is s.limit (lent_of s).size s.worker.replay_buffer.head stored s.held store g.store_lent held_in d n taken
 
-  pub fills_is : fills_at d rule ≡ leb s.limit (s.held + n)
+  fills_is : fills_at d rule ≡ leb s.limit (s.held + n)
   unfolding view
   fills_is = cuts_is s.limit (lent_of s).size s.worker.replay_buffer.head stored s.held store g.store_lent held_in d n taken
 
   length_held_is : length (held_of s store) ≡ s.held
   length_held_is = held_length s store (length table) g
 
-  pub length-holding : length (U.holding d rule) ≡ s.held + n
+  length-holding : length (U.holding d rule) ≡ s.held + n
   unfolding view
   length-holding = rw (room_is, length-append, length_held_is, length-take) (omega arith)
 
@@ -172,7 +172,7 @@ module _ (s : Session) (store : Bytes) (table : List ℕ) (out : Bytes) (g : Gua
       ∙ rule_accepts d (length out) rule (tests_are false t.cuts_is v ∙ t.goes)
       ∙ rw (fills_is, sym t.cuts_is, room_is)
 
-  pub rule-cuts : Taking s d (length out) n true → Valid s store table
+  rule-cuts : Taking s d (length out) n true → Valid s store table
       → step (R.append d (length out)) rule ≡ R.answers (R.took n (some (U.cut_request (U.holding d rule) rule))) (U.cuts (U.holding d rule) rule)
   unfolding R.choose
   rule-cuts t v =

@@ -1,11 +1,11 @@
 // Ported from google-cloud-storage 1.21.0, src/storage/bidi_write/transport.rs, Copyright 2026 Google LLC (Apache-2.0); changed: no tasks, channels or heap.
 // Append: "takes the smaller of its length and C − held. Held bytes reaching C are cut as one chunk."
-ghost use Rattle.std.specs.Prelude.{◌≡◌, false, ◌+◌, ◌<◌, ◌^◌, length};
+ghost use Rattle.std.specs.Prelude.{◌≡◌, false, ◌<◌, length};
 ghost use Rattle.rules.specs.Session as R;
 ghost use Rattle.transport.specs.View.{phase_of};
 ghost use Rattle.transport.specs.Valid.{GuardedAt};
 ghost use Rattle.transport.specs.Promise.{Promise};
-ghost use Rattle.appends.specs.Append.{append_tests, holding, Taking};
+ghost use Rattle.appends.specs.Append.{holding, Taking};
 
 use bidi_write::{Check, both};
 use cuts::cut;
@@ -54,9 +54,27 @@ fn append_guarded(
 {
     let limit = s.limit;
     let held = s.held;
+    let write_offset = s.write_offset;
+    let b = s.worker.replay_buffer;
+    let p = s.phase;
+    let phase = phase_number(p);
+    let finalized = s.worker.finalized;
     let n = coalescing_buffer::room(held, limit, data.len());
     let cuts = coalescing_buffer::fills(held, limit, n);
-    let way = admit(s, n, cuts, out.len());
+    let no_room = both(cuts, s.slots <= b.chunks);
+    let way = admission::upload(
+        phase,
+        finalized,
+        limit,
+        b.capacity,
+        b.unpersisted_bytes,
+        write_offset,
+        cuts,
+        cuts,
+        held + n,
+        out.len(),
+        no_room,
+    );
     match way {
         Check::Refuse(x) => Outcome {
             session: s,
@@ -64,32 +82,6 @@ fn append_guarded(
         },
         Check::Go => take(s, store, table, out, data, n, cuts),
     }
-}
-
-// Whether an append that takes n bytes, and cuts a chunk or not, goes on.
-pub fn admit(s: Session, n: usize, cuts: bool, out: usize) -> Check
-    requires { s.held + n < 2 ^ 64 }
-    ensures { result ≡ append_tests s n out cuts }
-{
-    let write_offset = s.write_offset;
-    let b = s.worker.replay_buffer;
-    let p = s.phase;
-    let phase = phase_number(p);
-    let finalized = s.worker.finalized;
-    let no_room = both(cuts, s.slots <= b.chunks);
-    admission::upload(
-        phase,
-        finalized,
-        s.limit,
-        b.capacity,
-        b.unpersisted_bytes,
-        write_offset,
-        cuts,
-        cuts,
-        s.held + n,
-        out,
-        no_room,
-    )
 }
 
 // The first n bytes of data are held, and where they fill a chunk it is cut.

@@ -23,8 +23,6 @@ number_of refusal.BadVerdict = 13
 number_of refusal.ShortBuffer = 14
 number_of refusal.Malformed = 15
 number_of refusal.TooManyEntries = 16
-number_of refusal.OutOfRange = 17
-number_of refusal.OverLimit = 18
 
 abbrev pub Rows : Type 0
 Rows = List (Bool × Refusal)

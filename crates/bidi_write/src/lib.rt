@@ -160,7 +160,7 @@ pub enum Call {
     FailedAttempt(Break, u8),
 }
 
-// Why a call was refused: the papers' numbers 1 to 18, in their order.
+// Why a call was refused: the papers' numbers 1 to 16, in their order.
 #[derive(Drop)]
 pub enum Refusal {
     Limits,
@@ -179,8 +179,6 @@ pub enum Refusal {
     ShortBuffer,
     Malformed,
     TooManyEntries,
-    OutOfRange,
-    OverLimit,
 }
 
 // Whether a call goes on.
@@ -320,8 +318,6 @@ pub fn refusal_number(x: Refusal) -> u64
         Refusal::ShortBuffer => 14,
         Refusal::Malformed => 15,
         Refusal::TooManyEntries => 16,
-        Refusal::OutOfRange => 17,
-        Refusal::OverLimit => 18,
     }
 }
 

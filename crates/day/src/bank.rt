@@ -8,20 +8,17 @@ use transport::Answer;
 // The tasks of a day are numbered from 1: its events, then finalise, then close.
 pub const EVENTS: u64 = 700;
 
-// What can go wrong, besides a refusal, which has its own number: the session ended too early, the desk waits with nothing on its way, the day did not come
-// to its end, the copies leave no room for an event, the bytes released are not those appended.
+// What can go wrong, besides a refusal, which has its own number: the session ended too early, the desk waits with nothing on its way, too many calls, the
+// copies leave no room for an event, the bytes released are not those appended.
 pub const ENDED_EARLY: u64 = 101;
 
 pub const STUCK: u64 = 102;
 
-pub const UNFINISHED: u64 = 103;
+pub const TOO_MANY_CALLS: u64 = 103;
 
 pub const NO_ROOM: u64 = 104;
 
 pub const UNSETTLED: u64 = 105;
-
-// What the pool's limit refuses: "18 when a cut would break the limit".
-const OVER_LIMIT: u64 = 18;
 
 // The verdict of a host that never gives up.
 pub const GO_ON: u8 = 1;
@@ -43,11 +40,7 @@ pub struct Bank {
     pub stated: u64,
     // the last request could not be sent, and the session has yet to be told
     pub unsent: bool,
-    // the bytes that all banks had released when this one last had its turn; since then the limit has refused it, and nothing was released
-    pub freed: u64,
-    pub held: bool,
     // today's figures
-    pub refused: u64,
     pub bytes: u64,
     pub chunks: u64,
     pub own_flushes: u64,
@@ -66,9 +59,6 @@ pub fn new(trouble: u64) -> Bank {
         completed: 0,
         stated: 0,
         unsent: false,
-        freed: 0,
-        held: false,
-        refused: 0,
         bytes: 0,
         chunks: 0,
         own_flushes: 0,
@@ -138,7 +128,7 @@ impl Bank {
             return self.trouble;
         }
         if self.phase != ENDED {
-            return UNFINISHED;
+            return TOO_MANY_CALLS;
         }
         0
     }
@@ -149,26 +139,6 @@ impl Bank {
             self.stated = size;
         }
         self
-    }
-
-    // The bank has its turn, and all banks have released so many bytes: what the limit refused is tried again once these are more.
-    pub fn turns(mut self, freed: u64) -> Bank {
-        if self.freed != freed {
-            self.held = false;
-        }
-        self.freed = freed;
-        self
-    }
-
-    // Whether the bank waits for others, and makes no call of its own.
-    pub fn rests(self) -> bool {
-        if self.unsent {
-            return false;
-        }
-        if self.phase != LIVE {
-            return false;
-        }
-        self.held
     }
 
     // ---- calls
@@ -204,7 +174,10 @@ impl Bank {
 
     pub fn heard(mut self, a: Answer) -> Bank {
         match a {
-            Answer::Refused(x) => self.refuses(bidi_write::refusal_number(x)),
+            Answer::Refused(x) => {
+                self.trouble = bidi_write::refusal_number(x);
+                self
+            }
             Answer::Took(n, _) => {
                 self.taken = wrapping_add_usize(self.taken, n);
                 self.bytes = wrapping_add_u64(self.bytes, n as u64);
@@ -230,17 +203,6 @@ impl Bank {
                 self.ends(cause)
             },
         }
-    }
-
-    // A refused call has changed nothing. One that the limit refused is made again later.
-    fn refuses(mut self, number: u64) -> Bank {
-        if number != OVER_LIMIT {
-            self.trouble = number;
-            return self;
-        }
-        self.held = true;
-        self.refused = wrapping_add_u64(self.refused, 1);
-        self
     }
 
     // A handshake leads to a replay.

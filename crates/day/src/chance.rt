@@ -51,10 +51,3 @@ pub fn minus(a: u64, b: u64) -> u64 {
     }
     a - b
 }
-
-pub fn larger(a: u64, b: u64) -> u64 {
-    if a < b {
-        return b;
-    }
-    a
-}

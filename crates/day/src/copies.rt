@@ -1,13 +1,12 @@
-// "A bank holds its own copy of each event until the hub no longer needs it": until all of its bytes are released. The copies of a bank lie in a ring, each byte at
-// the remainder of its offset; the rings of all banks lie one behind the other, in one array, which is the day's.
+// "A bank holds its own copy of each event until the hub no longer needs it": until all of its bytes are released. The copies lie in a ring, which is the
+// day's, each byte at the remainder of its offset.
 ghost use Rattle.std.specs.Prelude.{◌<◌, ◌≤◌, length};
 
 use crate::chance::minus;
 use crate::journal;
 use std::num::wrapping_add_u64;
 
-// Sixteen rings of 32,768 bytes.
-pub const RINGS: usize = 524288;
+pub const RING: usize = 32768;
 
 // An event has at most so many bytes, and so many events surely fit.
 pub const LONGEST: usize = 9000;
@@ -16,8 +15,6 @@ const MOST: u64 = 3;
 
 #[derive(Drop)]
 pub struct Copies {
-    // the bank's number, from 0 on
-    pub bank: u64,
     // where events end, each at the remainder of its number; those kept come behind those dropped
     pub ends: [u64; 3],
     pub kept: u64,
@@ -32,9 +29,8 @@ pub struct Copies {
     pub lacking: u64,
 }
 
-pub fn new(bank: u64, released: usize) -> Copies {
+pub fn new(released: usize) -> Copies {
     Copies {
-        bank,
         ends: [0u64; 3],
         kept: 0,
         released: released as u64,
@@ -91,16 +87,10 @@ impl Copies {
     }
 
     // The session hands out bytes from an offset on: it may send again what it has not released.
-    pub fn handed(mut self, rings: &[u8; RINGS], bytes: &[u8], at: u64) -> Copies {
+    pub fn handed(mut self, ring: &[u8; RING], bytes: &[u8], at: u64) -> Copies {
         let mut i = 0;
         while i < bytes.len() {
-            let lacks = lacks(
-                rings,
-                self.bank,
-                self.gone,
-                bytes[i],
-                wrapping_add_u64(at, i as u64),
-            );
+            let lacks = lacks(ring, self.gone, bytes[i], wrapping_add_u64(at, i as u64));
             self.lacking = wrapping_add_u64(self.lacking, one_if(lacks));
             i += 1;
         }
@@ -128,23 +118,23 @@ fn one_if(x: bool) -> u64 {
 
 // ---- the bytes
 
-fn place(bank: u64, at: u64) -> usize
-    ensures { result < 524288 }
+fn place(at: u64) -> usize
+    ensures { result < 32768 }
 {
-    (bank % 16 * 32768 + at % 32768) as usize
+    (at % 32768) as usize
 }
 
 // The journal's bytes between two offsets come in.
-pub fn fill(rings: &mut [u8; RINGS], bank: u64, key: u64, from: u64, to: u64) {
+pub fn fill(ring: &mut [u8; RING], key: u64, from: u64, to: u64) {
     let mut at = from;
     while at < to {
-        rings[place(bank, at)] = journal::byte_at(key, at);
+        ring[place(at)] = journal::byte_at(key, at);
         at += 1;
     }
 }
 
 // The n bytes from an offset on, in one piece; none where they do not fit.
-pub fn read(rings: &[u8; RINGS], bank: u64, at: u64, n: usize, event: &mut [u8]) -> usize
+pub fn read(ring: &[u8; RING], at: u64, n: usize, event: &mut [u8]) -> usize
     ensures { result ≤ length event.new }
 {
     if event.len() < n {
@@ -152,48 +142,48 @@ pub fn read(rings: &[u8; RINGS], bank: u64, at: u64, n: usize, event: &mut [u8])
     }
     let mut i = 0;
     while i < n {
-        event[i] = rings[place(bank, wrapping_add_u64(at, i as u64))];
+        event[i] = ring[place(wrapping_add_u64(at, i as u64))];
         i += 1;
     }
     n
 }
 
 // Whether the bank no longer has this byte at this offset.
-fn lacks(rings: &[u8; RINGS], bank: u64, gone: u64, byte: u8, at: u64) -> bool {
+fn lacks(ring: &[u8; RING], gone: u64, byte: u8, at: u64) -> bool {
     if at < gone {
         return true;
     }
-    rings[place(bank, at)] != byte
+    ring[place(at)] != byte
 }
 
 // Drops, oldest first, every event that may go.
 pub fn drop_released(
     copies: Copies,
-    rings: &mut [u8; RINGS],
+    ring: &mut [u8; RING],
     answered: u64,
     persisted: u64,
 ) -> Copies {
     let mut c = copies;
     let mut left = c.kept;
     while 0 < left {
-        c = drop_oldest(c, rings, answered, persisted);
+        c = drop_oldest(c, ring, answered, persisted);
         left -= 1;
     }
     c
 }
 
-fn drop_oldest(c: Copies, rings: &mut [u8; RINGS], answered: u64, persisted: u64) -> Copies {
+fn drop_oldest(c: Copies, ring: &mut [u8; RING], answered: u64, persisted: u64) -> Copies {
     if !c.may_drop() {
         return c;
     }
-    wipe(rings, c.bank, c.gone, c.oldest());
+    wipe(ring, c.gone, c.oldest());
     c.without(answered, persisted)
 }
 
-fn wipe(rings: &mut [u8; RINGS], bank: u64, from: u64, to: u64) {
+fn wipe(ring: &mut [u8; RING], from: u64, to: u64) {
     let mut at = from;
     while at < to {
-        rings[place(bank, at)] = 0;
+        ring[place(at)] = 0;
         at += 1;
     }
 }

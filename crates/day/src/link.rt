@@ -42,11 +42,6 @@ pub struct Link {
     pub stated: u64,
     // the last break or failed attempt
     pub kind: u64,
-    // the last break: behind how many events it fell, what it kept from arriving, whether the host was told at once, whether in a replay
-    pub fell: u64,
-    pub what: u64,
-    pub unsent: bool,
-    pub again: bool,
     // today's messages: their bytes, and the CRC32C of these
     pub bytes: u64,
     pub sum: u32,
@@ -64,10 +59,6 @@ pub fn new(breaks: u64) -> Link {
         in_a_row: 0,
         stated: 0,
         kind: END,
-        fell: 0,
-        what: CHUNK,
-        unsent: false,
-        again: false,
         bytes: 0,
         sum: 0,
         broken: 0,
@@ -103,21 +94,10 @@ impl Link {
     }
 
     // A message did not arrive. Now and then the next break comes soon.
-    pub fn broken(mut self, fell: u64, what: u64, key: u64) -> Link {
-        self.fell = fell;
-        self.what = what;
-        self.unsent = false;
-        self.again = false;
+    pub fn broken(mut self, key: u64) -> Link {
         self.breaks = minus(self.breaks, 1);
         self.broken = wrapping_add_u64(self.broken, 1);
         self.soon = minus(chance::draw(key, 21, 18), 12);
-        self
-    }
-
-    // Whether the host was told of it at once, and whether it was in a replay.
-    pub fn reported(mut self, unsent: bool, again: bool) -> Link {
-        self.unsent = unsent;
-        self.again = again;
         self
     }
 

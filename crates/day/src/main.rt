@@ -1,5 +1,5 @@
-// A day of locker banks, which share a limit, each against a server that follows document 01's rules, over a link that breaks between any two messages.
-// Arguments: seed, days, breaks a day and bank, banks; 1, 1, 9 and 1 where they are left out.
+// A locker bank's day against a server that follows document 01's rules, over a link that breaks between any two messages.
+// Arguments: seed, days, breaks a day; 1, 1 and 9 where they are left out.
 mod bank;
 mod chance;
 mod copies;
@@ -7,21 +7,17 @@ mod day;
 mod journal;
 mod link;
 mod message;
-mod opening;
-mod order;
 mod print;
 mod server;
 mod tally;
 mod world;
 
 use std::num::wrapping_add_u64;
-use tally::Sums;
+use tally::Tally;
 
 const MOST_DAYS: u64 = 10000;
 
 const MOST_BREAKS: u64 = 1000;
-
-const MOST_BANKS: u64 = 16;
 
 // What is no number counts as one that is too large.
 const NO_NUMBER: u64 = u64::MAX;
@@ -30,9 +26,8 @@ fn main() {
     let seed = argument(1, 1);
     let days = argument(2, 1);
     let breaks = argument(3, 9);
-    let banks = argument(4, 1);
-    if are_right(seed, days, breaks, banks) {
-        report(seed, days, breaks, banks);
+    if are_right(seed, days, breaks) {
+        report(seed, days, breaks);
     } else {
         print::usage();
     }
@@ -77,8 +72,8 @@ fn further(n: u64, digit: u8) -> u64 {
     n * 10 + (digit - b'0') as u64
 }
 
-fn are_right(seed: u64, days: u64, breaks: u64, banks: u64) -> bool {
-    if 5 < os::arg_count() {
+fn are_right(seed: u64, days: u64, breaks: u64) -> bool {
+    if 4 < os::arg_count() {
         return false;
     }
     if seed == NO_NUMBER {
@@ -90,46 +85,38 @@ fn are_right(seed: u64, days: u64, breaks: u64, banks: u64) -> bool {
     if MOST_DAYS < days {
         return false;
     }
-    if MOST_BREAKS < breaks {
-        return false;
-    }
-    if banks == 0 {
-        return false;
-    }
-    banks <= MOST_BANKS
+    breaks <= MOST_BREAKS
 }
 
 // ---- the days
 
-fn report(seed: u64, days: u64, breaks: u64, banks: u64) {
-    let limit = opening::limit(banks);
+fn report(seed: u64, days: u64, breaks: u64) {
     print::figure(b"seed", seed);
     print::figure(b"days", days);
-    print::figure(b"breaks a day and bank", breaks);
-    print::figure(b"banks", banks);
-    print::figure(b"limit of the pool, in bytes", limit);
-    let s = run(seed, days, breaks, banks);
-    let t = s.total(banks);
-    print::figures(t, s.reserved);
-    print::outcome(bidi_write::both(t.is_right(), s.reserved <= limit));
+    print::figure(b"breaks a day", breaks);
+    let t = run(seed, days, breaks);
+    print::figures(t);
+    print::outcome(t.is_right());
 }
 
-fn run(seed: u64, days: u64, breaks: u64, banks: u64) -> Sums {
-    let mut s = tally::none();
+fn run(seed: u64, days: u64, breaks: u64) -> Tally {
+    let mut t = tally::new();
     let mut d = 0;
     while d < days {
         d += 1;
-        s = one_day(seed, d, breaks, banks, s);
+        t = one_day(seed, d, breaks, t);
     }
-    s
+    t
 }
 
 // After a day that went wrong there is no other.
-fn one_day(seed: u64, d: u64, breaks: u64, banks: u64, s: Sums) -> Sums {
-    if s.failed {
-        return s;
+fn one_day(seed: u64, d: u64, breaks: u64, t: Tally) -> Tally {
+    if t.failed {
+        return t;
     }
     print::figure(b"day", d);
     let key = wrapping_add_u64(chance::draw(seed, 867, 4294967296), d);
-    s.with(day::run(key, breaks, banks), banks)
+    let w = day::run(key, breaks);
+    print::trouble(w.verdict());
+    t.with(w)
 }

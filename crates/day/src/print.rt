@@ -1,6 +1,6 @@
 // What a person reads.
-use crate::bank::{ENDED_EARLY, EVENTS, NO_ROOM, STUCK, UNFINISHED, UNSETTLED};
-use crate::link::{ABORTED, ANSWER, CHUNK, END, ERROR, FINISH, FLUSH, Link, REROUTED, STATUS};
+use crate::bank::{ENDED_EARLY, EVENTS, NO_ROOM, STUCK, TOO_MANY_CALLS, UNSETTLED};
+use crate::link::{ABORTED, ANSWER, CHUNK, END, ERROR, FINISH, FLUSH, REROUTED, STATUS};
 use crate::tally::Tally;
 use libc::STDOUT_FILENO;
 
@@ -14,7 +14,7 @@ pub fn number(n: u64) {
 
 pub fn usage() {
     text(
-        b"usage: day [seed [days [breaks a day [banks]]]]: seed of at most 18 digits, days 1 to 10000, breaks 0 to 1000, banks 1 to 16\n",
+        b"usage: day [seed [days [breaks a day]]]: seed of at most 18 digits, days 1 to 10000, breaks 0 to 1000\n",
     );
 }
 
@@ -41,31 +41,19 @@ fn counted(n: u64, what: &[u8]) {
     text(what);
 }
 
-// Whose line it is, where there are several.
-fn of(name: u64) {
-    if name != 0 {
-        text(b"bank ");
-        counted(name, b", ");
-    }
-}
-
-pub fn progress(name: u64, event: u64, persisted: u64, breaks: u64) {
+pub fn progress(event: u64, persisted: u64, breaks: u64) {
     time(event);
-    of(name);
     counted(event, b" events, ");
     counted(persisted, b" bytes persisted, ");
     counted(breaks, b" breaks\n");
 }
 
-// A break, once the host has seen it: at what event it fell, what did not arrive, and how many bytes of the tail were lost.
-pub fn broke(name: u64, l: Link, tail: u64) {
-    time(l.fell);
-    of(name);
+// A break's line begins where it falls, with what did not arrive.
+pub fn falls(event: u64, n: u64, what: u64) {
+    time(event);
     text(b"break ");
-    number(l.broken);
-    lost(l.what);
-    how(l.unsent, l.again);
-    seen(tail, l.kind);
+    number(n);
+    lost(what);
 }
 
 fn lost(what: u64) {
@@ -79,7 +67,7 @@ fn lost(what: u64) {
 }
 
 // The host was told at once, or not; in a replay, or not.
-fn how(unsent: bool, again: bool) {
+pub fn how(unsent: bool, again: bool) {
     if unsent {
         text(b", its send reported failed");
     }
@@ -88,9 +76,10 @@ fn how(unsent: bool, again: bool) {
     }
 }
 
-fn seen(tail: u64, kind: u64) {
+// It ends where the host sees it.
+pub fn seen(lost: u64, kind: u64) {
     text(b", ");
-    counted(tail, b" bytes of the tail lost, ");
+    counted(lost, b" bytes of the tail lost, ");
     error(kind);
 }
 
@@ -107,10 +96,9 @@ fn error(kind: u64) {
 
 // ---- the figures
 
-pub fn figures(t: Tally, reserved: u64) {
+pub fn figures(t: Tally) {
     work(t);
     link(t);
-    pool(t, reserved);
     faults(t);
 }
 
@@ -132,11 +120,6 @@ fn link(t: Tally) {
     figure(b"failed attempts to connect", t.failed_attempts);
     figure(b"sends reported failed", t.failed_sends);
     figure(b"bytes sent again", t.again);
-}
-
-fn pool(t: Tally, reserved: u64) {
-    figure(b"calls refused by the pool's limit", t.refused);
-    figure(b"most bytes reserved at a time", reserved);
 }
 
 fn faults(t: Tally) {
@@ -165,31 +148,14 @@ pub fn outcome(right: bool) {
     }
 }
 
-// A bank's total, where there are several.
-pub fn total(banks: u64, name: u64, t: Tally) {
-    if banks == 1 {
-        return;
-    }
-    text(b"bank ");
-    counted(name, b": ");
-    counted(t.events, b" events, ");
-    counted(t.bytes, b" bytes, ");
-    counted(t.breaks, b" breaks, ");
-    counted(t.refused, b" calls refused by the limit, ");
-    outcome(t.is_right());
-}
-
 // ---- what went wrong
 
-pub fn trouble(name: u64, n: u64) {
-    if n != 0 {
-        of(name);
-    }
+pub fn trouble(n: u64) {
     match n {
         0 => {}
         ENDED_EARLY => text(b"the session ended too early\n"),
         STUCK => text(b"the desk waits, and nothing is on its way\n"),
-        UNFINISHED => text(b"the day did not come to its end\n"),
+        TOO_MANY_CALLS => text(b"too many calls\n"),
         NO_ROOM => text(b"the copies leave no room for an event\n"),
         UNSETTLED => text(b"the bytes released are not those appended\n"),
         _ => figure(b"a call was refused, number", n),

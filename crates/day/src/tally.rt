@@ -1,12 +1,10 @@
-// The figures of a bank's days so far, or of all banks.
+// The figures of the days so far.
 use crate::bank::Bank;
-use crate::chance::{larger, minus};
+use crate::chance::minus;
 use crate::copies::Copies;
-use crate::day::Day;
 use crate::link::Link;
 use crate::server::Server;
 use crate::world::World;
-use crate::{print, world};
 use std::num::wrapping_add_u64;
 
 #[derive(Drop)]
@@ -27,7 +25,6 @@ pub struct Tally {
     pub failed_attempts: u64,
     pub failed_sends: u64,
     pub again: u64,
-    pub refused: u64,
     // what must be 0
     pub lost: u64,
     pub doubled: u64,
@@ -52,7 +49,6 @@ pub fn new() -> Tally {
         failed_attempts: 0,
         failed_sends: 0,
         again: 0,
-        refused: 0,
         waiters: 0,
         dropped: 0,
         unanswered: 0,
@@ -87,7 +83,6 @@ impl Tally {
         self.waiters = wrapping_add_u64(self.waiters, b.completed);
         self.failed_sends = wrapping_add_u64(self.failed_sends, b.failed_sends);
         self.again = wrapping_add_u64(self.again, b.again);
-        self.refused = wrapping_add_u64(self.refused, b.refused);
         self
     }
 
@@ -116,45 +111,6 @@ impl Tally {
         self
     }
 
-    // Another bank's figures too.
-    pub fn and(self, t: Tally) -> Tally {
-        self.and_work(t).and_link(t).and_faults(t)
-    }
-
-    fn and_work(mut self, t: Tally) -> Tally {
-        self.events = wrapping_add_u64(self.events, t.events);
-        self.bytes = wrapping_add_u64(self.bytes, t.bytes);
-        self.chunks = wrapping_add_u64(self.chunks, t.chunks);
-        self.own_flushes = wrapping_add_u64(self.own_flushes, t.own_flushes);
-        self.waiters = wrapping_add_u64(self.waiters, t.waiters);
-        self.dropped = wrapping_add_u64(self.dropped, t.dropped);
-        self.unanswered = wrapping_add_u64(self.unanswered, t.unanswered);
-        self
-    }
-
-    fn and_link(mut self, t: Tally) -> Tally {
-        self.sum = crc32c::combine(self.sum, t.sum, t.messages);
-        self.messages = wrapping_add_u64(self.messages, t.messages);
-        self.breaks = wrapping_add_u64(self.breaks, t.breaks);
-        self.redirects = wrapping_add_u64(self.redirects, t.redirects);
-        self.failed_attempts = wrapping_add_u64(self.failed_attempts, t.failed_attempts);
-        self.failed_sends = wrapping_add_u64(self.failed_sends, t.failed_sends);
-        self.again = wrapping_add_u64(self.again, t.again);
-        self.refused = wrapping_add_u64(self.refused, t.refused);
-        self
-    }
-
-    fn and_faults(mut self, t: Tally) -> Tally {
-        self.lost = wrapping_add_u64(self.lost, t.lost);
-        self.doubled = wrapping_add_u64(self.doubled, t.doubled);
-        self.misplaced = wrapping_add_u64(self.misplaced, t.misplaced);
-        self.cut_off = wrapping_add_u64(self.cut_off, t.cut_off);
-        self.unpersisted = wrapping_add_u64(self.unpersisted, t.unpersisted);
-        self.lacking = wrapping_add_u64(self.lacking, t.lacking);
-        self.failed = bidi_write::either(self.failed, t.failed);
-        self
-    }
-
     pub fn is_right(self) -> bool {
         if self.failed {
             return false;
@@ -175,61 +131,5 @@ impl Tally {
             return false;
         }
         self.lacking == 0
-    }
-}
-
-// The figures of each bank, and the most that their reserves summed to.
-#[derive(Drop)]
-pub struct Sums {
-    pub banks: [Tally; 16],
-    pub reserved: u64,
-    pub failed: bool,
-}
-
-pub fn none() -> Sums {
-    let t = new();
-    Sums {
-        banks: [t; 16],
-        reserved: 0,
-        failed: false,
-    }
-}
-
-impl Sums {
-    // A day more of so many banks. What went wrong with one is printed.
-    pub fn with(self, day: Day, banks: u64) -> Sums {
-        let worlds = day.worlds;
-        let mut tallies = self.banks;
-        let mut failed = self.failed;
-        let mut n = 0;
-        while n < banks {
-            let i = world::slot(n);
-            let w = worlds[i];
-            let t = tallies[i];
-            print::trouble(w.name, w.verdict());
-            tallies[i] = t.with(w);
-            failed = bidi_write::either(failed, w.verdict() != 0);
-            n += 1;
-        }
-        Sums {
-            banks: tallies,
-            reserved: larger(self.reserved, day.reserved),
-            failed,
-        }
-    }
-
-    // All banks together, each one's total printed where there are several.
-    pub fn total(self, banks: u64) -> Tally {
-        let tallies = self.banks;
-        let mut all = tallies[0];
-        print::total(banks, 1, all);
-        let mut n = 1;
-        while n < banks {
-            let t = tallies[world::slot(n)];
-            n += 1;
-            print::total(banks, n, t);
-            all = all.and(t);
-        }
-        all
     }
 }

@@ -1,24 +1,23 @@
-// A bank's host, its link and its server together: what happens up to the host's next call, and what its answer leads to.
-ghost use Rattle.std.specs.Prelude.{◌<◌, ◌≤◌, length};
+// The host, the link and the server together: what happens up to the host's next call, and what its answer leads to.
+ghost use Rattle.std.specs.Prelude.{◌≤◌, length};
 ghost use Rattle.bidi_write.specs.View.{length_of};
 ghost use Rattle.transport.specs.View.{sent_length};
 
 use crate::bank::{Bank, EVENTS, GO_ON, NO_ROOM, STUCK, UNSETTLED};
 use crate::chance::minus;
-use crate::copies::{Copies, LONGEST, RINGS};
+use crate::copies::{Copies, LONGEST, RING};
 use crate::link::{ANSWER, CHUNK, FINISH, FLUSH, HANDSHAKE, Link};
 use crate::server::Server;
 use crate::{bank, chance, copies, link, message, print, server};
 use admission::{CONNECTING, LIVE, REPLAY};
 use bidi_write::{Call, Data, Refusal, Request, refusal_number};
+use openings::OpenAnswer;
 use std::num::wrapping_add_u64;
 use transport::{Answer, MaybeRequest};
 use wire::WriteAnswer;
 
 #[derive(Drop)]
 pub struct World {
-    // the bank's name, a number from 1 on; 0 where it is the only one
-    pub name: u64,
     // of what is drawn next, and of the journal
     pub key: u64,
     pub journal: u64,
@@ -30,76 +29,20 @@ pub struct World {
     pub early: u64,
 }
 
-// A host's next call, the world in which it makes it, and how many bytes of the event it brings.
+// A host's next call, and the world in which it makes it.
 #[derive(Drop)]
 pub struct Move {
     pub world: World,
     pub call: Call,
-    pub bytes: usize,
 }
 
-// A day's banks, of which the pool has this many.
-pub fn all(
-    seed: u64,
-    breaks: u64,
-    banks: u64,
-    trouble: u64,
-    released: [usize; 16],
-    rings: &mut [u8; RINGS],
-) -> [World; 16] {
-    let first = new(0, name(banks, 0), seed, breaks, trouble, released[0], rings);
-    let mut worlds = [first; 16];
-    let mut n = 1;
-    while n < banks {
-        let i = slot(n);
-        worlds[i] = new(
-            n,
-            name(banks, n),
-            seed_of(seed, n),
-            breaks,
-            trouble,
-            released[i],
-            rings,
-        );
-        n += 1;
-    }
-    worlds
-}
-
-pub fn slot(number: u64) -> usize
-    ensures { result < 16 }
-{
-    (number % 16) as usize
-}
-
-fn name(banks: u64, number: u64) -> u64 {
-    if banks == 1 {
-        return 0;
-    }
-    wrapping_add_u64(number, 1)
-}
-
-fn seed_of(seed: u64, number: u64) -> u64 {
-    wrapping_add_u64(seed, number % 16 * 1000003)
-}
-
-// The bank of this number, from 0 on.
-fn new(
-    number: u64,
-    name: u64,
-    seed: u64,
-    breaks: u64,
-    trouble: u64,
-    released: usize,
-    rings: &mut [u8; RINGS],
-) -> World {
+pub fn new(seed: u64, breaks: u64, a: OpenAnswer, released: usize, ring: &mut [u8; RING]) -> World {
     let journal = chance::draw(seed, 50, 4294967296);
-    let bank = bank::new(trouble);
-    let copies = copies::new(number, released);
+    let bank = bank::new(opened(a));
+    let copies = copies::new(released);
     let link = link::new(breaks);
     let server = server::new(journal);
     let w = World {
-        name,
         key: chance::draw(seed, 51, 4294967296),
         journal,
         bank,
@@ -108,7 +51,14 @@ fn new(
         server,
         early: 0,
     };
-    begin(w, rings)
+    begin(w, ring)
+}
+
+fn opened(a: OpenAnswer) -> u64 {
+    match a {
+        OpenAnswer::Refused(x) => refusal_number(x),
+        OpenAnswer::Opened => 0,
+    }
 }
 
 impl World {
@@ -128,17 +78,17 @@ impl World {
 // ---- the day's tasks
 
 // The next task: an event of about 6,000 bytes, or at the end none.
-fn begin(mut w: World, rings: &mut [u8; RINGS]) -> World {
+fn begin(mut w: World, ring: &mut [u8; RING]) -> World {
     let done = w.bank.task;
     let bank = w.bank.begin(length_of(w.key, done, LONGEST));
     w.bank = bank;
     let messages = messages_left(done);
     w.link.messages = messages;
-    keep(w, rings)
+    keep(w, ring)
 }
 
 // The bank keeps a copy of the event, if there is one.
-fn keep(mut w: World, rings: &mut [u8; RINGS]) -> World {
+fn keep(mut w: World, ring: &mut [u8; RING]) -> World {
     if w.bank.length == 0 {
         return w;
     }
@@ -148,7 +98,7 @@ fn keep(mut w: World, rings: &mut [u8; RINGS]) -> World {
     }
     let from = w.bank.bytes;
     let to = wrapping_add_u64(from, w.bank.length as u64);
-    copies::fill(rings, w.copies.bank, w.journal, from, to);
+    copies::fill(ring, w.journal, from, to);
     let copies = w.copies.with(to);
     w.copies = copies;
     w
@@ -171,28 +121,22 @@ fn messages_left(done: u64) -> u64 {
 }
 
 // A task ends with the completion of its waiter. Then "the base and every byte taken before the call that made it are persisted".
-fn work(mut w: World, rings: &mut [u8; RINGS]) -> World {
+fn work(mut w: World, ring: &mut [u8; RING]) -> World {
     if !w.bank.is_answered() {
         return w;
     }
     w.early = wrapping_add_u64(w.early, minus(w.bank.bytes, w.server.persisted));
     if w.bank.task % 100 == 0 {
-        print::progress(w.name, w.bank.task, w.server.persisted, w.link.broken);
+        print::progress(w.bank.task, w.server.persisted, w.link.broken);
     }
-    begin(w, rings)
+    begin(w, ring)
 }
 
 // ---- the next call
 
-// The bank has its turn; all banks have released so many bytes.
-pub fn next(w: World, freed: u64, rings: &mut [u8; RINGS]) -> Move {
-    if w.bank.is_over() {
-        return rest(w);
-    }
-    let mut w = work(w, rings);
+pub fn next(w: World, ring: &mut [u8; RING]) -> Move {
+    let mut w = work(w, ring);
     w.key = chance::next(w.key);
-    let bank = w.bank.turns(freed);
-    w.bank = bank;
     if w.bank.unsent {
         return act(w);
     }
@@ -226,31 +170,10 @@ fn live(mut w: World) -> Move {
     act(w)
 }
 
-// The host's own next call. What the limit refused is not tried again before bytes were released.
+// The host's own next call.
 fn act(w: World) -> Move {
-    if w.bank.rests() {
-        return rest(w);
-    }
-    make(w, w.bank.call())
-}
-
-fn make(w: World, call: Call) -> Move {
-    let bytes = w.bank.left();
-    Move {
-        world: w,
-        call,
-        bytes,
-    }
-}
-
-// "An append of nothing is always accepted, even after the end, takes 0 and changes nothing."
-fn rest(w: World) -> Move {
-    let call = Call::Append;
-    Move {
-        world: w,
-        call,
-        bytes: 0,
-    }
+    let call = w.bank.call();
+    Move { world: w, call }
 }
 
 // The message arrives, or a break comes first.
@@ -260,7 +183,11 @@ fn receive(mut w: World) -> Move {
     }
     w.server.full = false;
     let m = w.server.message;
-    make(told(w, m.size), Call::Response(message::response(m)))
+    let call = Call::Response(message::response(m));
+    Move {
+        world: told(w, m.size),
+        call,
+    }
 }
 
 // A message of this size arrived.
@@ -274,8 +201,9 @@ fn told(mut w: World, size: u64) -> World {
 
 // A break falls on a message.
 fn broken(mut w: World, what: u64) -> World {
-    let link = w.link.broken(w.bank.events(), what, w.key);
+    let link = w.link.broken(w.key);
     w.link = link;
+    print::falls(w.bank.events(), w.link.broken, what);
     w
 }
 
@@ -285,8 +213,9 @@ fn see_break(mut w: World) -> Move {
     w.server = server;
     let link = w.link.erred(w.bank.stated, w.key);
     w.link = link;
-    print::broke(w.name, w.link, w.server.lost);
-    make(w, Call::Break(message::stream_break(w.link.kind)))
+    print::seen(w.server.lost, w.link.kind);
+    let call = Call::Break(message::stream_break(w.link.kind));
+    Move { world: w, call }
 }
 
 // A break while connecting, an attempt that fails by itself, or the handshake.
@@ -304,12 +233,10 @@ fn fail(mut w: World, tells: bool) -> Move {
     let link = w.link.failed(w.bank.stated, w.key);
     w.link = link;
     if tells {
-        print::broke(w.name, w.link, 0);
+        print::seen(0, w.link.kind);
     }
-    make(
-        w,
-        Call::FailedAttempt(message::stream_break(w.link.kind), GO_ON),
-    )
+    let call = Call::FailedAttempt(message::stream_break(w.link.kind), GO_ON);
+    Move { world: w, call }
 }
 
 // "An accepted handshake begins the next connection, with no tail, and states the true size."
@@ -317,34 +244,37 @@ fn greet(mut w: World) -> Move {
     w.server.alive = true;
     w.server.lossless = true;
     let m = w.server.greets(w.key);
-    make(told(w, m.size), Call::Handshake(message::response(m)))
+    let call = Call::Handshake(message::response(m));
+    Move {
+        world: told(w, m.size),
+        call,
+    }
 }
 
 // ---- its answer
 
-// The modem board gets the request's message. It has at most 39 bytes more than its data.
-pub fn heard(w: World, a: Answer, out: &[u8], rings: &mut [u8; RINGS]) -> World
+// The modem board gets the request's message.
+pub fn heard(w: World, a: Answer, out: &[u8], message: &mut [u8], ring: &mut [u8; RING]) -> World
     requires { sent_length a ≤ length out.now }
 {
-    let w = noted(w, a, rings);
+    let w = noted(w, a, ring);
     let handed = shown::handed(a);
     let MaybeRequest::Present(request) = handed else {
         return w;
     };
-    let mut message = [0u8; 4135];
-    let written = wire::write(request, out, &mut message);
+    let written = wire::write(request, out, message);
     match written {
-        WriteAnswer::Wrote(n) => send(carried(w, &message[..n]), request, out, rings),
+        WriteAnswer::Wrote(n) => send(carried(w, &message[..n]), request, out, ring),
         WriteAnswer::Refused(x) => refused(w, x),
     }
 }
 
 // The bank notes the answer, and drops the copies that it may.
-fn noted(mut w: World, a: Answer, rings: &mut [u8; RINGS]) -> World {
+fn noted(mut w: World, a: Answer, ring: &mut [u8; RING]) -> World {
     let bank = w.bank.heard(a);
     w.bank = bank;
     let told = w.copies.told(shown::released(a));
-    let copies = copies::drop_released(told, rings, w.bank.answered(), w.server.persisted);
+    let copies = copies::drop_released(told, ring, w.bank.answered(), w.server.persisted);
     w.copies = copies;
     w
 }
@@ -362,10 +292,10 @@ fn refused(mut w: World, x: Refusal) -> World {
 }
 
 // The host "sends each request once, on the present connection, or reports it failed". What is sent on a connection that was cut is lost with it.
-fn send(w: World, r: Request, out: &[u8], rings: &[u8; RINGS]) -> World
+fn send(w: World, r: Request, out: &[u8], ring: &[u8; RING]) -> World
     requires { length_of r.«data» ≤ length out.now }
 {
-    let mut w = compared(w, r, out, rings);
+    let mut w = compared(w, r, out, ring);
     if !w.server.alive {
         return sent(w, r, chance::one_in(w.key, 43, 2));
     }
@@ -382,7 +312,7 @@ fn send(w: World, r: Request, out: &[u8], rings: &[u8; RINGS]) -> World
 }
 
 // Every chunk is held to the bank's copies, those sent again too.
-fn compared(mut w: World, r: Request, out: &[u8], rings: &[u8; RINGS]) -> World
+fn compared(mut w: World, r: Request, out: &[u8], ring: &[u8; RING]) -> World
     requires { length_of r.«data» ≤ length out.now }
 {
     let at = r.write_offset;
@@ -391,7 +321,7 @@ fn compared(mut w: World, r: Request, out: &[u8], rings: &[u8; RINGS]) -> World
         return w;
     };
     let n = c.length;
-    let copies = w.copies.handed(rings, &out[..n], bidi_write::to_nat(at));
+    let copies = w.copies.handed(ring, &out[..n], bidi_write::to_nat(at));
     w.copies = copies;
     w
 }
@@ -406,8 +336,7 @@ fn sent(mut w: World, r: Request, unsent: bool) -> World {
 fn break_on(w: World, r: Request) -> World {
     let mut w = broken(w, what(r));
     let way = chance::draw(w.key, 44, 3);
-    let link = w.link.reported(way != 0, w.bank.phase == REPLAY);
-    w.link = link;
+    print::how(way != 0, w.bank.phase == REPLAY);
     let server = w.server.breaks(way == 2, w.key);
     w.server = server;
     sent(w, r, way != 0)

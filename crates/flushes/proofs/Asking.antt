@@ -148,7 +148,7 @@ module _ (k : PendingKind) (s : Session) (store : Bytes) (table : List ℕ) (out
       (λ v. step_is k (length out) rule ∙ rule-refuses (kind_of k) (length out) rule x (tests_are cuts e v ∙ t))
 
   -- held bytes are cut
-  pub rule-cuts : Asking s (length out) true → Valid s store table
+  rule-cuts : Asking s (length out) true → Valid s store table
       → step (call_of k (length out)) rule ≡ R.answers (R.sends (U.cut_request (held_of s store) rule)) (U.cuts (held_of s store) rule)
   unfolding R.choose view
   rule-cuts t v =

@@ -6,7 +6,7 @@ ghost use Rattle.rules.specs.Session as R;
 ghost use Rattle.transport.specs.View.{phase_of};
 ghost use Rattle.transport.specs.Valid.{GuardedAt};
 ghost use Rattle.transport.specs.Promise.{Promise};
-ghost use Rattle.flushes.specs.Flush.{call_of, ask_tests, Asking, Awaits};
+ghost use Rattle.flushes.specs.Flush.{call_of, Asking, Awaits};
 
 use bidi_write::Check;
 use cuts::{Sending, cut};
@@ -51,29 +51,16 @@ fn ask_guarded(
     requires guarded_at { GuardedAt s (length store.now) (length table.old) }
     ensures { Promise (call_of kind (length out.old)) s store.now table.old out.old result store.now table.new out.new }
 {
-    let cuts = s.held != 0;
-    let way = admit(s, cuts, out.len());
-    match way {
-        Check::Refuse(x) => Outcome {
-            session: s,
-            answer: Answer::Refused(x),
-        },
-        Check::Go => send(kind, s, store, table, out, cuts),
-    }
-}
-
-// Whether a flush or finalise that cuts the held bytes, or makes a waiter, goes on.
-pub fn admit(s: Session, cuts: bool, out: usize) -> Check
-    ensures { result ≡ ask_tests s out cuts }
-{
+    let held = s.held;
     let write_offset = s.write_offset;
     let b = s.worker.replay_buffer;
     let q = s.worker.pending_requests;
     let p = s.phase;
     let phase = phase_number(p);
     let finalized = s.worker.finalized;
+    let cuts = held != 0;
     let no_room = worker::lacks_room(cuts, s.slots, b.chunks, q.count, s.made);
-    admission::upload(
+    let way = admission::upload(
         phase,
         finalized,
         s.limit,
@@ -82,10 +69,17 @@ pub fn admit(s: Session, cuts: bool, out: usize) -> Check
         write_offset,
         true,
         cuts,
-        s.held,
-        out,
+        held,
+        out.len(),
         no_room,
-    )
+    );
+    match way {
+        Check::Refuse(x) => Outcome {
+            session: s,
+            answer: Answer::Refused(x),
+        },
+        Check::Go => send(kind, s, store, table, out, cuts),
+    }
 }
 
 // The held bytes are cut, or where there are none a waiter is made.

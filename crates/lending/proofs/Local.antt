@@ -34,14 +34,14 @@ ref h b γ = record { ref_ptr = (b, 0); ghost_name = γ; now = h }
 module _ {M : Type 1} {𝓤 : Ura M} {𝓛 : Logic 𝓤} {K : Type 0} {Γ : List (Item 𝓤)} {G : Goal 𝓤 𝓛.H} (T : Declared) (L : LL.Laws T) where
   pub lend : K → Soaks G → (h : T.D) (κ : Lft) (b : ℕ)
       → ((γ : GName) → Seq K 𝓛 (‵ ((MutRef (named 0) κ (row T)).own_val (ref h b γ) (vptr b 0 ∷ [])) ∷ ‵ (flent κ (Body (mem (row T)) b 0 γ)) ∷ Γ) G)
-      → Seq K 𝓛 (‵ (cell_at full_share (row T).mir (LL.vals T L h) b 0) ∷ ‵ ((row T).own h (LL.vals T L h)) ∷ Γ) G
+      → Seq K 𝓛 (‵ (cell_at full_share (row T).mir (LL.vals T L h) b 0) ∷ ‵ ((row T).own_val h (LL.vals T L h)) ∷ Γ) G
   unfolding part_of
   lend t z h κ b k =
-      fjoin t $ fpack t (List Val) (λ us. fsep (cell_at full_share (row T).mir us b 0) ((row T).own h us)) (LL.vals T L h) $
+      fjoin t $ fpack t (List Val) (λ us. fsep (cell_at full_share (row T).mir us b 0) ((row T).own_val h us)) (LL.vals T L h) $
       use1 𝓛 (later (some (λ (γ : GName). ‵ ((MutRef (named 0) κ (row T)).own_val (ref h b γ) (vptr b 0 ∷ [])) ⊛ ‵ (flent κ (Body (mem (row T)) b 0 γ))))) (lends_ref 𝓛 (row T) (named 0) κ h b 0) $ await t z $ pick t (λ γ. split t $ k γ)
 
   pub back : K → Soaks G → (h : T.D) {κ : Lft} (b : ℕ) {γ : GName}
-      → (Is (row T) h (LL.vals T L h) → Seq K 𝓛 (‵ ((row T).own h (LL.vals T L h)) ∷ ‵ (cell_at full_share (row T).mir (LL.vals T L h) b 0) ∷ Γ) G)
+      → (Is (row T) h (LL.vals T L h) → Seq K 𝓛 (‵ ((row T).own_val h (LL.vals T L h)) ∷ ‵ (cell_at full_share (row T).mir (LL.vals T L h) b 0) ∷ Γ) G)
       → Seq K 𝓛 (‵ (fdead κ) ∷ ‵ (flent κ (Body (mem (row T)) b 0 γ)) ∷ ‵ (fres γ ((row T).coded.code h)) ∷ Γ) G
   unfolding part_of
   back t z h {κ} b {γ} k =
@@ -50,14 +50,14 @@ module _ {M : Type 1} {𝓤 : Ura M} {𝓛 : Logic 𝓤} {K : Type 0} {Γ : List
 
   pub lend_shr : K → Soaks G → (h : T.D) (κ : Lft) (b : ℕ)
       → ((γ : GName) → Seq K 𝓛 (‵ ((ShrRef (named 0) κ (row T)).own_val (ref h b γ) (vptr b 0 ∷ [])) ∷ ‵ (flent κ (part_at (row T) full_share h b 0)) ∷ Γ) G)
-      → Seq K 𝓛 (‵ (cell_at full_share (row T).mir (LL.vals T L h) b 0) ∷ ‵ ((row T).own h (LL.vals T L h)) ∷ Γ) G
+      → Seq K 𝓛 (‵ (cell_at full_share (row T).mir (LL.vals T L h) b 0) ∷ ‵ ((row T).own_val h (LL.vals T L h)) ∷ Γ) G
   unfolding part_of
   lend_shr t z h κ b k =
-      fjoin t $ fpack t (List Val) (λ us. fsep (cell_at full_share (row T).mir us b 0) ((row T).own h us)) (LL.vals T L h) $
+      fjoin t $ fpack t (List Val) (λ us. fsep (cell_at full_share (row T).mir us b 0) ((row T).own_val h us)) (LL.vals T L h) $
       use1 𝓛 (later (some (λ (γ : GName). ‵ ((ShrRef (named 0) κ (row T)).own_val (ref h b γ) (vptr b 0 ∷ [])) ⊛ ‵ (flent κ (part_at (row T) full_share h b 0))))) (lends_shr 𝓛 (row T) (named 0) κ full_share h b 0) $ await t z $ pick t (λ γ. split t $ k γ)
 
   pub back_shr : K → Soaks G → (h : T.D) {κ : Lft} (b : ℕ)
-      → (Is (row T) h (LL.vals T L h) → Seq K 𝓛 (‵ ((row T).own h (LL.vals T L h)) ∷ ‵ (cell_at full_share (row T).mir (LL.vals T L h) b 0) ∷ Γ) G)
+      → (Is (row T) h (LL.vals T L h) → Seq K 𝓛 (‵ ((row T).own_val h (LL.vals T L h)) ∷ ‵ (cell_at full_share (row T).mir (LL.vals T L h) b 0) ∷ Γ) G)
       → Seq K 𝓛 (‵ (fdead κ) ∷ ‵ (flent κ (part_at (row T) full_share h b 0)) ∷ Γ) G
   unfolding part_of
   back_shr t z h b k =

@@ -1,6 +1,6 @@
 // Ported from google-cloud-storage 1.21.0, src/storage/bidi_write/transport.rs, Copyright 2026 Google LLC (Apache-2.0); changed: no tasks, channels or heap.
 // Opening: refusals 1 to 5 in order, else the session that the calls start from.
-pub mod starting;
+mod starting;
 
 ghost use Rattle.std.specs.Prelude.{◌≡◌};
 ghost use Rattle.std.proofs.Math.Option.{get_or};
@@ -122,7 +122,7 @@ fn writer(session: Session, answer: OpenAnswer, released: usize) -> Opened
 }
 
 // "Opening checks 1 to 5 in order."
-pub fn admit(
+fn admit(
     o: Opening,
     store: usize,
     slots: usize,

@@ -125,7 +125,7 @@ record Grows (s : Session) (r : Result) : Type 0 where
 grown : {c : Call} {s : Session} (r : Result) → (brings c).message ≡ false → Grows s r → By c s r
 grown r e g = record { less = omega (arith, g.silent, g.grows); report = λ f. never (sym f ∙ e); other = λ _. g.silent }
 
-pub cut-stored : (b : Bytes) (s : Session) → stored (cuts b s) ≡ stored s + length b
+cut-stored : (b : Bytes) (s : Session) → stored (cuts b s) ≡ stored s + length b
 unfolding stored
 cut-stored b s = ap length (bytes_snoc (chunks s) (chunk_of b s)) ∙ length-append (bytes_of (chunks s)) b
 

@@ -23,7 +23,7 @@ calls_same : (b : Bool) (c : Call) (could : Bool) (r : Result) (w : World) → (
 calls_same true c could r w h = ap (λ (x : Result). after c could w x) (h c refl)
 calls_same false c could r w h = refl
 
-pub same : (e : Event) (r : Result) (w : World) → ((c : Call) → call_in e w ≡ some c → r ≡ step c w.session) → with_result e (λ _. r) w ≡ happens e w
+same : (e : Event) (r : Result) (w : World) → ((c : Call) → call_in e w ≡ some c → r ≡ step c w.session) → with_result e (λ _. r) w ≡ happens e w
 unfolding happens
 same (host_calls c could) r w h = calls_same (unprompted c) c could r w h
 same (host_hands could keep) r w h = hands-same w.server.link.messages could keep r w h
@@ -50,7 +50,7 @@ says-left : (b : Bool) (v w : World) (s : Session) → v.session ≡ s → w.ses
 says-left true v w s e f = e
 says-left false v w s e f = f
 
-pub left_is : (e : Event) (r : Result) (w : World) → (call_in e w ≡ none → w.session ≡ r.session) → (with_result e (λ _. r) w).session ≡ r.session
+left_is : (e : Event) (r : Result) (w : World) → (call_in e w ≡ none → w.session ≡ r.session) → (with_result e (λ _. r) w).session ≡ r.session
 left_is (host_calls c could) r w h = calls-left (unprompted c) c could r w h
 left_is (host_hands could keep) r w h = hands-left w.server.link.messages could keep r w h
 left_is (host_sends i) r w h = h refl

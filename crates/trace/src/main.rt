@@ -1,15 +1,14 @@
 // Makes every call that the records on standard input name, and prints after each what it answered and the whole state: docs/TRACE.md.
 mod script;
 
-use script::play;
+use script::{Stand, play};
 use trace_records::Asks;
 use trace_records::fields::CUT;
 use trace_records::input::fetch;
 use trace_records::opening::read_lent;
-use trace_records::scripts::Stand;
 use trace_text::{flush, least, part, text};
 
-// An opening with six texts of 65,535 bytes, the longest record of a session, has 393,300. A longer one of a pool is cut.
+// An opening with six texts of 65,535 bytes, the longest record, has 393,300.
 const INPUT: usize = 400000;
 
 const OUTPUT: usize = 65536;
@@ -74,8 +73,6 @@ fn turn(
     };
     match asks {
         Asks::Opening(at) => lend(input, out, store, table, room, q, at),
-        Asks::Pool(at) => trace_pools::play(input, out, q, at),
-        Asks::Bank(_) => q,
         Asks::Call(_) => q,
         Asks::Write(_, _) => q,
         Asks::End => q.printed(text(out, p.waiting, b"\n")),

@@ -56,7 +56,7 @@ fn released(out: &mut [u8], n: usize, call: Call, a: Answer) -> usize {
     }
 }
 
-pub fn release(out: &mut [u8], n: usize, bytes: usize) -> usize {
+fn release(out: &mut [u8], n: usize, bytes: usize) -> usize {
     let n = trace_text::number_field(out, n, b"  rl ", bytes as u64);
     text(out, n, b"\n")
 }

@@ -6,23 +6,11 @@ use shown::View;
 use state::{AppendObjectSpec, Bucket, Condition, Object, RoutingToken, WriteHandle};
 use std::num::{wrapping_add_u64, wrapping_add_usize, wrapping_sub_u64, wrapping_sub_usize};
 use trace_text::{part, text};
-use transport::{Phase, Session};
+use transport::Phase;
 use worker::{MAX_PENDING, PendingKind, PendingRequest, PendingRequests, Worker};
 
-// What a host sees of the session, and what else is in its record.
-pub fn state(out: &mut [u8], n: usize, store: &[u8], table: &[u64], s: Session) -> usize {
-    let v = lending::view(s);
-    let x = lending::spec(s);
-    let offset = s.write_offset;
-    let sum = s.running_crc32c;
-    let w = s.worker;
-    parts(
-        out, n, store, table, v, x, s.limit, s.slots, s.made, offset, sum, w,
-    )
-}
-
 // Nothing here knows that a call left the record, so its numbers are added wrapping.
-fn parts(
+pub fn state(
     out: &mut [u8],
     n: usize,
     store: &[u8],

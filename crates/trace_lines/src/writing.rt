@@ -1,18 +1,10 @@
 // What WB prints: a request's bytes.
 use bidi_write::refusal_number;
 use trace_text::{hexes, least, number_field, part, text};
-use transport::{Answer, MaybeRequest};
+use transport::MaybeRequest;
 use wire::WriteAnswer;
 
 const BUFFER: usize = 16384;
-
-// The request of the last accepted call: a refused one leaves that of the one before.
-pub fn last(a: Answer, before: MaybeRequest) -> MaybeRequest {
-    let Answer::Refused(_) = a else {
-        return shown::handed(a);
-    };
-    before
-}
 
 // Writes the request into a buffer of `length` bytes, with the first `data` bytes of `room` lent, of each no more than is there.
 pub fn write(

@@ -25,12 +25,6 @@ pub struct U32 {
 }
 
 #[derive(Drop)]
-pub struct U64 {
-    pub value: u64,
-    pub next: usize,
-}
-
-#[derive(Drop)]
 pub struct I64 {
     pub given: bool,
     pub value: i64,
@@ -105,21 +99,14 @@ pub fn u32_at(input: &[u8], at: usize) -> U32 {
     }
 }
 
-pub fn u64_at(input: &[u8], at: usize) -> U64 {
+pub fn i64_at(input: &[u8], at: usize) -> I64 {
     let low = u32_at(input, at);
     let high = u32_at(input, low.next);
-    U64 {
-        value: bench_records::u64_of(low.value, high.value),
-        next: high.next,
-    }
-}
-
-pub fn i64_at(input: &[u8], at: usize) -> I64 {
-    let x = u64_at(input, at);
+    let x = bidi_write::i64_of(bench_records::u64_of(low.value, high.value));
     I64 {
         given: true,
-        value: bidi_write::i64_of(x.value),
-        next: x.next,
+        value: x,
+        next: high.next,
     }
 }
 

@@ -1,10 +1,8 @@
 // The records of docs/TRACE.md.
 pub mod fields;
 pub mod input;
-pub mod members;
 mod message;
 pub mod opening;
-pub mod scripts;
 
 use bidi_write::Call;
 use fields::{CUT, Text, no_text, text_at, u8_at, u16_at};
@@ -13,10 +11,6 @@ use opening::read_opening;
 
 // The marks, as little-endian numbers.
 const OP: u16 = b'O' as u16 + 256 * b'P' as u16;
-
-const PO: u16 = b'P' as u16 + 256 * b'O' as u16;
-
-const BK: u16 = b'B' as u16 + 256 * b'K' as u16;
 
 const AP: u16 = b'A' as u16 + 256 * b'P' as u16;
 
@@ -49,10 +43,6 @@ const EN: u16 = b'E' as u16 + 256 * b'N' as u16;
 pub enum Asks {
     // an opening, whose fields begin at this place
     Opening(usize),
-    // a pool's opening, likewise
-    Pool(usize),
-    // the bank that later records name
-    Bank(usize),
     Call(Call),
     // the last request's bytes, into a buffer of the first length, with as much of out lent as the second
     Write(usize, usize),
@@ -66,8 +56,6 @@ pub enum Asks {
 pub fn ends(asks: Asks) -> bool {
     match asks {
         Asks::Opening(_) => true,
-        Asks::Pool(_) => true,
-        Asks::Bank(_) => false,
         Asks::Call(_) => false,
         Asks::Write(_, _) => false,
         Asks::End => true,
@@ -89,8 +77,6 @@ pub fn read(input: &[u8], at: usize) -> Record {
     let at = m.next;
     match mark {
         OP => open(input, at),
-        PO => plain(Asks::Pool(at), members::end_of(input, at)),
-        BK => bank(input, at),
         AP => append(input, at),
         FL => bare(Call::Flush, at),
         FI => bare(Call::Finalise, at),
@@ -133,11 +119,6 @@ fn bare(call: Call, next: usize) -> Record {
 fn open(input: &[u8], at: usize) -> Record {
     let o = read_opening(input, at);
     plain(Asks::Opening(at), o.next)
-}
-
-fn bank(input: &[u8], at: usize) -> Record {
-    let b = u8_at(input, at);
-    plain(Asks::Bank(b.value as usize), b.next)
 }
 
 fn append(input: &[u8], at: usize) -> Record {

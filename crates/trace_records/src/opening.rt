@@ -43,12 +43,7 @@ pub fn read_lent(input: &[u8], at: usize) -> Lent {
 
 pub fn read_opening(input: &[u8], at: usize) -> Opens {
     let lent = read_lent(input, at);
-    opening_at(input, lent.next)
-}
-
-// An opening without the lengths.
-pub fn opening_at(input: &[u8], at: usize) -> Opens {
-    let limit = u32_at(input, at);
+    let limit = u32_at(input, lent.next);
     let asked = maybe_u32_at(input, limit.next);
     let last = i64_at(input, asked.next);
     let form = choice(input, last.next, 1);

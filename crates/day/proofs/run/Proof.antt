@@ -5,13 +5,13 @@ use Rattle.day.proofs.run.Statement.{statement}
 use Rattle.day.proofs.run.Tie as tie
 
 abbrev invariant-loop : tie.invariant-loop
-invariant-loop seed days breaks banks s₀ d₀ s d = Unit
+invariant-loop seed days breaks t₀ d₀ t d = Unit
 
 abbrev decreases-loop : tie.decreases-loop
-decreases-loop seed days breaks banks s₀ d₀ s d = days - d
+decreases-loop seed days breaks t₀ d₀ t d = days - d
 
-none-requires : tie.Need-none-requires invariant-loop decreases-loop
-none-requires c κs = search rules
+new-requires : tie.Need-new-requires invariant-loop decreases-loop
+new-requires c κs = search rules
 
 loop-holds : tie.Need-loop-init invariant-loop decreases-loop
 loop-holds c = search rules
@@ -37,7 +37,7 @@ run_spec =
     (tie.spec
     invariant-loop
     decreases-loop
-    none-requires
+    new-requires
     loop-holds
     add-d
     one-day-requires

@@ -97,7 +97,7 @@ module _ {M : Type 1} {𝓤 : Ura M} (𝓛 : Logic 𝓤) (mem : Memory → SProp
   Entry = on_entry 𝓛 on.signature (κ, tt) (q, tt) (d, (t, tt)) at
 
   abbrev Own : Fml
-  Own = (B (κ, tt)).own d (mach ∷ [])
+  Own = (B (κ, tt)).own_val d (mach ∷ [])
 
   abbrev OwnStep : Fml
   OwnStep = (S.the_row).own_val t (w ∷ [])

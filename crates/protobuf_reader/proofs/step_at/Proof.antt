@@ -141,8 +141,8 @@ module _ {M : Type 1} {𝓤 : Ura M} (𝓛 : Logic 𝓤) (mem : Memory → SProp
   abbrev to-next : Reader → Val → (Next 𝓛 mem run).Ghost
   to-next r u = (((κ, tt), (q, tt), tt, (r, tt), (u ∷ [], tt)), tt)
 
-  goes-next : (r : Reader) (u : Val) → ent 𝓤 (⋆ 𝓛 (‵ ((B (κ, tt)).own r (u ∷ [])) ∷ (‵ (flft κ q) ⊛ ‵ ftrue) ∷ [])) ((Next 𝓛 mem run).pre (to-next r u))
-  goes-next r u = qed 𝓛 (‵ ((B (κ, tt)).own r (u ∷ [])) ∷ (‵ (flft κ q) ⊛ ‵ ftrue) ∷ []) ∵ nothing ! $ move ! (1 ∷ 0 ∷ []) $ fjoin ! $ move ! (1 ∷ 0 ∷ []) $ join ! $ frame ! $ done !
+  goes-next : (r : Reader) (u : Val) → ent 𝓤 (⋆ 𝓛 (‵ ((B (κ, tt)).own_val r (u ∷ [])) ∷ (‵ (flft κ q) ⊛ ‵ ftrue) ∷ [])) ((Next 𝓛 mem run).pre (to-next r u))
+  goes-next r u = qed 𝓛 (‵ ((B (κ, tt)).own_val r (u ∷ [])) ∷ (‵ (flft κ q) ⊛ ‵ ftrue) ∷ []) ∵ nothing ! $ move ! (1 ∷ 0 ∷ []) $ fjoin ! $ move ! (1 ∷ 0 ∷ []) $ join ! $ frame ! $ done !
 
   abbrev Came : Reader → Step → Type 0
   Came r t = Steps t r.bytes.now r.at
@@ -156,9 +156,9 @@ module _ {M : Type 1} {𝓤 : Ura M} (𝓛 : Logic 𝓤) (mem : Memory → SProp
   to-on r u t w = (((κ, tt), (q, tt), tt, (r, (t, tt)), (u ∷ [], (w ∷ [], tt))), tt)
 
   goes_on : (r : Reader) (u : Val) (t : Step) (w : Val)
-      → ent 𝓤 (⋆ 𝓛 (‵ ((S.the_row).own_val t (w ∷ [])) ∷ (‵ (flft κ q) ⊛ ‵ ftrue) ∷ ‵ ((B (κ, tt)).own r (u ∷ [])) ∷ [])) ((On 𝓛 mem run).pre (to-on r u t w))
+      → ent 𝓤 (⋆ 𝓛 (‵ ((S.the_row).own_val t (w ∷ [])) ∷ (‵ (flft κ q) ⊛ ‵ ftrue) ∷ ‵ ((B (κ, tt)).own_val r (u ∷ [])) ∷ [])) ((On 𝓛 mem run).pre (to-on r u t w))
   goes_on r u t w =
-      qed 𝓛 (‵ ((S.the_row).own_val t (w ∷ [])) ∷ (‵ (flft κ q) ⊛ ‵ ftrue) ∷ ‵ ((B (κ, tt)).own r (u ∷ [])) ∷ []) ∵
+      qed 𝓛 (‵ ((S.the_row).own_val t (w ∷ [])) ∷ (‵ (flft κ q) ⊛ ‵ ftrue) ∷ ‵ ((B (κ, tt)).own_val r (u ∷ [])) ∷ []) ∵
       nothing ! $ move ! (1 ∷ 0 ∷ []) $ fjoin ! $ move ! (2 ∷ 0 ∷ []) $ fjoin ! $ move ! (1 ∷ 0 ∷ []) $ join ! $ frame ! $ done !
 
   abbrev Moved : Reader → Step → Reader → Type 0
@@ -200,13 +200,13 @@ module _ {M : Type 1} {𝓤 : Ura M} (𝓛 : Logic 𝓤) (mem : Memory → SProp
         -- [room for _8; …; room for _3; …; _2; …; _1; …; room for _0; …; what is had at entry]
         move ! (18 ∷ []) $ use1 𝓛 (raw ((Seek 𝓛 mem run).pre to-seek) ⊛ ‵ Owns) goes-seek $ split ! $
         calls_at ! fm (Seek 𝓛 mem run) known-seek to-seek (and_then ! (load ! (from ! (stop !)) (look ! 16 refl)) (and_then ! (load ! (from ! (stop !)) (look ! 14 refl)) (no_more !))) (λ u.
-        use1 𝓛 (later (some (λ (r : Reader). ((‵ (flft κ q) ⊛ ‵ ftrue) ⊛ ‵ ((B (κ, tt)).own r (u ∷ []))) ⊛ raw (ensured 𝓛 seek.ended (seek.clauses 𝓛 mem run) (κ, tt) (s, (n, tt)) tt r)))) (id⊢ 𝓤 _) $ await ! tt $ pick ! (λ r.
+        use1 𝓛 (later (some (λ (r : Reader). ((‵ (flft κ q) ⊛ ‵ ftrue) ⊛ ‵ ((B (κ, tt)).own_val r (u ∷ []))) ⊛ raw (ensured 𝓛 seek.ended (seek.clauses 𝓛 mem run) (κ, tt) (s, (n, tt)) tt r)))) (id⊢ 𝓤 _) $ await ! tt $ pick ! (λ r.
         split ! $ move ! (1 ∷ []) $ use1 𝓛 (raw (fact 𝓤 (Sought r))) (seek-said r) $ heard ! (Sought r) (λ e. split ! $ move ! (1 ∷ []) $
         -- [what the struct owns; the token; what the parameters own; room for _8; …; room for _3; …; _2; …; _1; …; room for _0; …]
         peeks ! (B (κ, tt)) (Is (B (κ, tt))) (shows 𝓛 (B (κ, tt))) r (u ∷ []) (λ is.
         land ! (from ! (stop !)) (init ! 13 refl ((LL.lawful (T.the_type αᵉ) (T'.the_laws αᵉ) 𝓛).typed r _ is).0) $
         assigns ! (of_opd ! (load ! (from ! (stop !)) (look ! 13 refl))) (from ! (stop !)) (init ! 7 refl ((LL.lawful (T.the_type αᵉ) (T'.the_laws αᵉ) 𝓛).typed r _ is).0) $
-        use1 𝓛 (‵ ((B (κ, tt)).own r (u ∷ [])) ⊛ ‵ ((B (κ, tt)).own r (u ∷ []))) ((LL.copy (T.the_type (named_lft 1 0 tt (κ, tt))) (T'.the_copy (named_lft 1 0 tt (κ, tt))) 𝓛).twice r (u ∷ [])) $ split ! $ move ! (0 ∷ 2 ∷ []) $
+        use1 𝓛 (‵ ((B (κ, tt)).own_val r (u ∷ [])) ⊛ ‵ ((B (κ, tt)).own_val r (u ∷ []))) ((LL.copy (T.the_type (named_lft 1 0 tt (κ, tt))) (T'.the_copy (named_lft 1 0 tt (κ, tt))) 𝓛).twice r (u ∷ [])) $ split ! $ move ! (0 ∷ 2 ∷ []) $
         use2 𝓛 (raw ((Next 𝓛 mem run).pre (to-next r u))) (goes-next r u) $
         -- [what `next` asks; what the struct owns; what the parameters own; room for _8; …; room for _7; …; _6; …]
         calls_at ! fm (Next 𝓛 mem run) known_next (to-next r u) (and_then ! (load ! (from ! (stop !)) (look ! 7 refl)) (no_more !)) (λ w.
@@ -219,7 +219,7 @@ module _ {M : Type 1} {𝓤 : Ura M} (𝓛 : Logic 𝓤) (mem : Memory → SProp
         use3 𝓛 (raw ((On 𝓛 mem run).pre (to-on r u t w))) (goes_on r u t w) $
         -- [what `on` asks; what the parameters own; room for _8; …; _7; …; _6; …; room for _5; …; _4; …]
         calls_at ! fm (On 𝓛 mem run) known_on (to-on r u t w) (and_then ! (load ! (from ! (stop !)) (look ! 4 refl)) (and_then ! (load ! (from ! (stop !)) (look ! 10 refl)) (no_more !))) (λ x.
-        use1 𝓛 (later (some (λ (m : Reader). ((‵ (flft κ q) ⊛ ‵ ftrue) ⊛ ‵ ((B (κ, tt)).own m (x ∷ []))) ⊛ raw (ensured 𝓛 on.ended (on.clauses 𝓛 mem run) (κ, tt) (r, (t, tt)) tt m)))) (id⊢ 𝓤 _) $ await ! tt $ pick ! (λ m.
+        use1 𝓛 (later (some (λ (m : Reader). ((‵ (flft κ q) ⊛ ‵ ftrue) ⊛ ‵ ((B (κ, tt)).own_val m (x ∷ []))) ⊛ raw (ensured 𝓛 on.ended (on.clauses 𝓛 mem run) (κ, tt) (r, (t, tt)) tt m)))) (id⊢ 𝓤 _) $ await ! tt $ pick ! (λ m.
         split ! $ move ! (1 ∷ []) $ use1 𝓛 (raw (fact 𝓤 (Moved r t m))) (on-said r t m) $ heard ! (Moved r t m) (λ f. split ! $ move ! (1 ∷ []) $
         -- [what the second struct owns; the token; what the parameters own; room for _8; …; _7; …; _6; …; room for _5; …; _4; …; _3; …; _2; …; _1; …; room for _0; …]
         peeks ! (B (κ, tt)) (Is (B (κ, tt))) (shows 𝓛 (B (κ, tt))) m (x ∷ []) (λ ism.

@@ -5,10 +5,10 @@ use Rattle.day.proofs.copies.drop_released.Statement.{statement}
 use Rattle.day.proofs.copies.drop_released.Tie as tie
 
 abbrev invariant-loop : tie.invariant-loop
-invariant-loop rings₀ answered persisted c₀ left₀ rings c left = Unit
+invariant-loop ring₀ answered persisted c₀ left₀ ring c left = Unit
 
 abbrev decreases-loop : tie.decreases-loop
-decreases-loop rings₀ answered persisted c₀ left₀ rings c left = left
+decreases-loop ring₀ answered persisted c₀ left₀ ring c left = left
 
 loop-holds : tie.Need-loop-init invariant-loop decreases-loop
 loop-holds c = search rules

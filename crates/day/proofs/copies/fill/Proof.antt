@@ -5,10 +5,10 @@ use Rattle.day.proofs.copies.fill.Statement.{statement}
 use Rattle.day.proofs.copies.fill.Tie as tie
 
 abbrev invariant-loop : tie.invariant-loop
-invariant-loop rings₀ bank key from to at₀ rings at = Unit
+invariant-loop ring₀ key from to at₀ ring at = Unit
 
 abbrev decreases-loop : tie.decreases-loop
-decreases-loop rings₀ bank key from to at₀ rings at = to - at
+decreases-loop ring₀ key from to at₀ ring at = to - at
 
 loop-holds : tie.Need-loop-init invariant-loop decreases-loop
 loop-holds c = search rules
@@ -19,8 +19,8 @@ byte-at-requires c κs = search rules
 place-requires : tie.Need-place-requires invariant-loop decreases-loop
 place-requires c κs = search rules
 
-element-write-rings : tie.Need-element-write-rings invariant-loop decreases-loop
-element-write-rings c = search rules
+element-write-ring : tie.Need-element-write-ring invariant-loop decreases-loop
+element-write-ring c = search rules
 
 add_at : tie.Need-overflow-add-at invariant-loop decreases-loop
 add_at c = search rules
@@ -43,7 +43,7 @@ fill_spec =
     loop-holds
     byte-at-requires
     place-requires
-    element-write-rings
+    element-write-ring
     add_at
     loop-less
     loop-again

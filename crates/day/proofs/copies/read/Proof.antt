@@ -4,10 +4,10 @@ use Rattle.day.proofs.copies.read.Statement.{statement}
 use Rattle.day.proofs.copies.read.Tie as tie
 
 abbrev invariant-loop : tie.invariant-loop
-invariant-loop rings bank at n event₀ i₀ event i = (length event ≡ length event₀) × (n ≤ length event)
+invariant-loop ring at n event₀ i₀ event i = (length event ≡ length event₀) × (n ≤ length event)
 
 abbrev decreases-loop : tie.decreases-loop
-decreases-loop rings bank at n event₀ i₀ event i = n - i
+decreases-loop ring at n event₀ i₀ event i = n - i
 
 returns : tie.Need-returns invariant-loop decreases-loop
 returns c = search rules

@@ -5,10 +5,10 @@ use Rattle.day.proofs.copies.wipe.Statement.{statement}
 use Rattle.day.proofs.copies.wipe.Tie as tie
 
 abbrev invariant-loop : tie.invariant-loop
-invariant-loop rings₀ bank from to at₀ rings at = Unit
+invariant-loop ring₀ from to at₀ ring at = Unit
 
 abbrev decreases-loop : tie.decreases-loop
-decreases-loop rings₀ bank from to at₀ rings at = to - at
+decreases-loop ring₀ from to at₀ ring at = to - at
 
 loop-holds : tie.Need-loop-init invariant-loop decreases-loop
 loop-holds c = search rules
@@ -16,8 +16,8 @@ loop-holds c = search rules
 place-requires : tie.Need-place-requires invariant-loop decreases-loop
 place-requires c κs = search rules
 
-element-write-rings : tie.Need-element-write-rings invariant-loop decreases-loop
-element-write-rings c = search rules
+element-write-ring : tie.Need-element-write-ring invariant-loop decreases-loop
+element-write-ring c = search rules
 
 add_at : tie.Need-overflow-add-at invariant-loop decreases-loop
 add_at c = search rules
@@ -39,7 +39,7 @@ wipe-spec =
     decreases-loop
     loop-holds
     place-requires
-    element-write-rings
+    element-write-ring
     add_at
     loop-less
     loop-again

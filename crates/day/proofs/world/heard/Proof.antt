@@ -1,5 +1,5 @@
 -- `day::world::heard` meets its contract.
-use Rattle.std.proofs.Common.{◌≤◌, length, sym, subst, arith, length-take-le, rules}
+use Rattle.std.proofs.Common.{◌≤◌, length, sym, subst, length-take-le, rules}
 use Rattle.transport.specs.View.{maybe_length}
 use Rattle.day.proofs.world.heard.Statement.{statement}
 use Rattle.day.proofs.world.heard.Tie as tie
@@ -19,32 +19,28 @@ enum_told c = search rules
 returns : tie.Need-returns
 returns c = search rules
 
-slice-aggregate-write : tie.Need-slice-aggregate-write
-slice-aggregate-write c = search rules
-
 write-requires : tie.Need-write-requires
 write-requires c κs = search rules
 
 enum-known-written : tie.Need-enum-known-written
 enum-known-written c = search rules
 
-array-share-prefix-message : tie.Need-array-share-prefix-message
-array-share-prefix-message c =
+slice-reshare-prefix-carried : tie.Need-slice-reshare-prefix-carried
+slice-reshare-prefix-carried c =
     let known = c.before in
-    let back = known.before.before in
-    omega (arith, back.before.write.ensures.within known.written.given.0.0 known.written.given.1, back.message2.given)
+    known.before.before.before.before.write.ensures.within known.written.given.0.0 known.written.given.1
 
 slice-aggregate-carried : tie.Need-slice-aggregate-carried
-slice-aggregate-carried c = sym (length-take-le _ _ (array-share-prefix-message c.before))
+slice-aggregate-carried c = sym (length-take-le _ _ (slice-reshare-prefix-carried c.before))
 
 carried-requires : tie.Need-carried-requires
 carried-requires c κs = search rules
 
 send-requires : tie.Need-send-requires
 send-requires c κs =
-    let known = c.before.before.before.before.before.before.before.before.before.before in
+    let known = c.before.before.before.before.before.before.before.before.before.before.before in
     let asked = known.before.before in
-    let entry = asked.before.before.before.before in
+    let entry = asked.before.before.before.before.before in
     let fits = subst (λ x. maybe_length x ≤ length entry.args.out.now) (sym asked.handed.ensures) entry.requires in
     subst (λ x. maybe_length x ≤ length entry.args.out.now) known.handed2.given.1 fits
 
@@ -54,8 +50,14 @@ enum-known-written-2 c = search rules
 refused-requires : tie.Need-refused-requires
 refused-requires c κs = search rules
 
+same_length : tie.Need-same-length
+same_length c = search rules
+
 returns-2 : tie.Need-returns-2
 returns-2 c = search rules
+
+same-length-2 : tie.Need-same-length-2
+same-length-2 c = search rules
 
 returns-3 : tie.Need-returns-3
 returns-3 c = search rules
@@ -69,14 +71,15 @@ heard-spec =
     enum-known-handed
     enum_told
     returns
-    slice-aggregate-write
     write-requires
     enum-known-written
-    array-share-prefix-message
+    slice-reshare-prefix-carried
     slice-aggregate-carried
     carried-requires
     send-requires
     enum-known-written-2
     refused-requires
+    same_length
     returns-2
+    same-length-2
     returns-3)

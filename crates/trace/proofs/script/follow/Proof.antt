@@ -20,8 +20,8 @@ loop-holds c = search rules
 sub-turns : tie.Need-overflow-sub-turns invariant-loop decreases-loop
 sub-turns c = search rules
 
-state-requires : tie.Need-state-requires invariant-loop decreases-loop
-state-requires c κs = search rules
+state-of-requires : tie.Need-state-of-requires invariant-loop decreases-loop
+state-of-requires c κs = search rules
 
 writes-requires : tie.Need-writes-requires invariant-loop decreases-loop
 writes-requires c κs = search rules
@@ -44,7 +44,7 @@ same-length-2 c =
     let wrote = over.before.before.before.before.before.before.before.before in
     let shown = wrote.before.before.before.before.before.before in
     let turn = shown.before.before.before.before.before in
-    over.over.auto.0 ∙ wrote.writes.auto.1.0 ∙ shown.state.auto.0 ∙ turn.loop.invariant.1
+    over.over.auto.0 ∙ wrote.writes.auto.1.0 ∙ shown.state-of.auto.0 ∙ turn.loop.invariant.1
 
 same-length-3 : tie.Need-same-length-3 invariant-loop decreases-loop
 same-length-3 c =
@@ -96,7 +96,7 @@ loop-again c =
     let shown = wrote.before.before.before.before.before.before in
     let turn = shown.before.before.before.before.before in (
       wrote.writes.auto.0 ∙ turn.loop.invariant.0,
-      said.answer.auto.0 ∙ wrote.writes.auto.1.0 ∙ shown.state.auto.0 ∙ turn.loop.invariant.1,
+      said.answer.auto.0 ∙ wrote.writes.auto.1.0 ∙ shown.state-of.auto.0 ∙ turn.loop.invariant.1,
       made.step.auto.1.1.0 ∙ turn.loop.invariant.2,
       made.step.auto.1.1.1.0 ∙ turn.loop.invariant.3,
       made.step.auto.1.1.1.1.0 ∙ turn.loop.invariant.4,
@@ -131,7 +131,7 @@ follow-spec =
     decreases-loop
     loop-holds
     sub-turns
-    state-requires
+    state-of-requires
     writes-requires
     enum-known-asks
     over-requires

@@ -5,10 +5,10 @@ use Rattle.day.proofs.copies.Copies.handed.Statement.{statement}
 use Rattle.day.proofs.copies.Copies.handed.Tie as tie
 
 abbrev invariant-loop : tie.invariant-loop
-invariant-loop self₀ rings bytes at i₀ self i = Unit
+invariant-loop self₀ ring bytes at i₀ self i = Unit
 
 abbrev decreases-loop : tie.decreases-loop
-decreases-loop self₀ rings bytes at i₀ self i = length bytes - i
+decreases-loop self₀ ring bytes at i₀ self i = length bytes - i
 
 loop-holds : tie.Need-loop-init invariant-loop decreases-loop
 loop-holds c = search rules

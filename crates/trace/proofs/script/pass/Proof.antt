@@ -1,9 +1,9 @@
--- `trace_records::scripts::pass` meets its contract: lengths stay, and the turns count down.
+-- `trace::script::pass` meets its contract: lengths stay, and the turns count down.
 use mathlib.Core.Path.{◌≡◌}
 use borrow.Author.Rules.{rules}
 use lib.ListN.{length}
-use Rattle.trace_records.proofs.scripts.pass.Statement.{statement}
-use Rattle.trace_records.proofs.scripts.pass.Tie as tie
+use Rattle.trace.proofs.script.pass.Statement.{statement}
+use Rattle.trace.proofs.script.pass.Tie as tie
 
 abbrev invariant-loop : tie.invariant-loop
 invariant-loop input₀ out₀ at end n at₀ end₀ turns₀ input out at' end' turns = (length input ≡ length input₀) × (length out ≡ length out₀)
