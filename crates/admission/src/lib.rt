@@ -1,5 +1,7 @@
 // Whether an opening or a call goes on: the rows of its tests, on plain numbers, in the papers' order: "Opening checks 1 to 5 in order. Later calls check 7, 12, 6,
 // 13, 4, 11, 8, 9, 10, as far as they apply", and 15 "between 13 and 4".
+#![tactic(auto)]
+
 ghost use Rattle.std.specs.Prelude.{◌≡◌, not, ◌||◌, ◌+◌, ◌-◌, ◌^◌, ltb, eqb};
 ghost use Rattle.bidi_write.specs.Numbers.{to_ℕ};
 ghost use Rattle.bidi_write.specs.Refusal.{checked};

@@ -1,5 +1,7 @@
 // Ported from google-cloud-storage 1.21.0, src/storage/bidi_write/transport.rs, Copyright 2026 Google LLC (Apache-2.0); changed: no tasks, channels or heap.
 // Append: "takes the smaller of its length and C − held. Held bytes reaching C are cut as one chunk."
+#![tactic(auto)]
+
 ghost use Rattle.std.specs.Prelude.{◌≡◌, false, ◌<◌, length};
 ghost use Rattle.rules.specs.Session as R;
 ghost use Rattle.transport.specs.View.{phase_of};

@@ -1,4 +1,6 @@
 // The lines of document 01's bench program, each by value.
+#![tactic(auto)]
+
 mod words;
 
 ghost use Rattle.std.specs.Prelude.{◌≡◌, ◌≤◌, length};

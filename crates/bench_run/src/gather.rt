@@ -3,8 +3,9 @@ ghost use Rattle.std.specs.Prelude.{◌+◌, ◌≤◌, length};
 ghost use Rattle.text.specs.Line.{text_of};
 ghost use Rattle.bench_run.specs.Gathers.{Gathers};
 
-use libc::STDOUT_FILENO;
 use text::Line;
+
+const STDOUT_FILENO: i32 = 1;
 
 // Puts a line behind the text, and tells where it ends.
 pub fn put(text: &mut [u8], used: usize, line: Line) -> usize
@@ -13,7 +14,7 @@ pub fn put(text: &mut [u8], used: usize, line: Line) -> usize
 {
     let bytes = line.bytes;
     let n = line.end();
-    bytes::copy(&bytes[..n], &mut text[used..]);
+    text[used..used + n].copy_from_slice(&bytes[..n]);
     used + n
 }
 

@@ -1,4 +1,6 @@
 // The run of the bench program: records are read from a file, and lines are written.
+#![tactic(auto)]
+
 mod gather;
 mod input;
 mod play;

@@ -1,5 +1,8 @@
 // Runs streams of records as the bench program does: each argument names a file of them, and is written before its lines.
-use libc::STDOUT_FILENO;
+#![tactic(auto)]
+
+const STDOUT_FILENO: i32 = 1;
+
 
 fn main() {
     let n = os::arg_count();

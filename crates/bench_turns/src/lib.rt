@@ -1,4 +1,6 @@
 // The records of the bench program as calls of a session.
+#![tactic(auto)]
+
 ghost use Rattle.std.specs.Prelude.{◌≡◌, true, false, cond, [], ℕ, ◌≤◌, length};
 ghost use Rattle.rules.specs.Bench.{sized as Bench·sized};
 ghost use Rattle.rules.specs.Message.{Bytes};

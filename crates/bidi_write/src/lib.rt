@@ -1,6 +1,8 @@
 // Ported from google-cloud-storage 1.21.0, src/storage/bidi_write.rs, Copyright 2026 Google LLC (Apache-2.0); changed: no tasks, channels or heap.
 // The messages that a session sends and is told, its calls, and why it refuses one. Bytes stand beside a record: a request's data at the front of the out buffer,
 // what a call brings in slices.
+#![tactic(auto)]
+
 ghost use Rattle.std.specs.Prelude.{◌≡◌, ◌&&◌, ◌||◌, ◌+◌, ◌<◌, ◌≤◌, ◌^◌, pos, ◌+ℤ◌, ◌-ℤ◌};
 ghost use Rattle.std.specs.Int.Signed.{lt_z};
 ghost use Rattle.std.specs.Int.{w64};
@@ -20,46 +22,46 @@ pub const MAX_CAPACITY: usize = 1024 * 1024 * 1024;
 pub const DEFAULT_CAPACITY: usize = 32 * 1024 * 1024;
 
 // An offset in the object, or a size of it.
-#[derive(Drop)]
+#[derive(Clone, Copy)]
 pub struct Offset(pub i64);
 
 // The difference of two offsets, which takes 65 bits: how far the first is below the second, or how far it is not.
-#[derive(Drop)]
+#[derive(Clone, Copy)]
 pub enum Difference {
     Below(u64),
     AtLeast(u64),
 }
 
 // A generation of the object.
-#[derive(Drop)]
+#[derive(Clone, Copy)]
 pub struct Generation(pub i64);
 
 // A metageneration of the object, which counts the changes of its metadata.
-#[derive(Drop)]
+#[derive(Clone, Copy)]
 pub struct Metageneration(pub i64);
 
 // A CRC32C, where it is known.
-#[derive(Drop)]
+#[derive(Clone, Copy)]
 pub enum Checksum {
     Unknown,
     Known(u32),
 }
 
 // The data of a request: its bytes fill the front of the out buffer.
-#[derive(Drop)]
+#[derive(Clone, Copy)]
 pub struct ChecksummedData {
     pub length: usize,
     pub crc32c: u32,
 }
 
-#[derive(Drop)]
+#[derive(Clone, Copy)]
 pub enum Data {
     Absent,
     Checksummed(ChecksummedData),
 }
 
 // A request after opening. First message and request parameters are absent in all of them.
-#[derive(Drop)]
+#[derive(Clone, Copy)]
 pub struct Request {
     pub write_offset: Offset,
     pub data: Data,
@@ -69,14 +71,14 @@ pub struct Request {
     pub finish_write: bool,
 }
 
-#[derive(Drop)]
+#[derive(Clone, Copy)]
 pub struct Resource {
     pub size: Offset,
     pub generation: Generation,
     pub finalized: bool,
 }
 
-#[derive(Drop)]
+#[derive(Clone, Copy)]
 pub enum WriteStatus {
     Absent,
     PersistedSize(Offset),
@@ -84,20 +86,20 @@ pub enum WriteStatus {
 }
 
 // A response; the handle's bytes come beside it.
-#[derive(Drop)]
+#[derive(Clone, Copy)]
 pub struct Response {
     pub write_status: WriteStatus,
     pub has_write_handle: bool,
 }
 
-#[derive(Drop)]
+#[derive(Clone, Copy)]
 pub enum NewGeneration {
     Absent,
     Given(Generation),
 }
 
 // What a redirect's detail says; the token's and the handle's bytes come beside it.
-#[derive(Drop)]
+#[derive(Clone, Copy)]
 pub struct Redirect {
     pub has_routing_token: bool,
     pub has_write_handle: bool,
@@ -105,20 +107,20 @@ pub struct Redirect {
 }
 
 // The detail of a status, which redirects or is absent; its value, as received, comes beside it.
-#[derive(Drop)]
+#[derive(Clone, Copy)]
 pub enum Detail {
     Absent,
     Redirect,
 }
 
-#[derive(Drop)]
+#[derive(Clone, Copy)]
 pub struct Status {
     pub code: u32,
     pub detail: Detail,
 }
 
 // How a stream broke.
-#[derive(Drop)]
+#[derive(Clone, Copy)]
 pub enum Break {
     EndOfStream,
     Status(Status),
@@ -126,7 +128,7 @@ pub enum Break {
 }
 
 // Why a session ended.
-#[derive(Drop)]
+#[derive(Clone, Copy)]
 pub enum Cause {
     Finished,
     Regressed,
@@ -138,14 +140,14 @@ pub enum Cause {
     StreamError,
 }
 
-#[derive(Drop)]
+#[derive(Clone, Copy)]
 pub enum Size {
     Absent,
     Stated(Offset),
 }
 
 // A call after opening. An append's data, a response's handle or the value of a break's detail comes beside it.
-#[derive(Drop)]
+#[derive(Clone, Copy)]
 pub enum Call {
     Append,
     Flush,
@@ -161,7 +163,7 @@ pub enum Call {
 }
 
 // Why a call was refused: the papers' numbers 1 to 16, in their order.
-#[derive(Drop)]
+#[derive(Clone, Copy)]
 pub enum Refusal {
     Limits,
     ShortMemory,
@@ -182,7 +184,7 @@ pub enum Refusal {
 }
 
 // Whether a call goes on.
-#[derive(Drop)]
+#[derive(Clone, Copy)]
 pub enum Check {
     Go,
     Refuse(Refusal),

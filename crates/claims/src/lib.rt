@@ -1,1 +1,2 @@
 // What is claimed of any list of the host's calls: definitions and proofs only.
+#![tactic(auto)]

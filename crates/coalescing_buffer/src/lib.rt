@@ -1,6 +1,8 @@
 // Ported from google-cloud-storage 1.21.0, src/storage/bidi_write/coalescing_buffer.rs, Copyright 2026 Google LLC (Apache-2.0); changed: no tasks, channels or heap.
 // Held bytes: those of appends that no chunk has yet. They lie in the ring over the lent store, behind the stored ones.
 // The crate's `push` cuts as many chunks as it can; a call here fills one chunk at most and says how much of the data it took.
+#![tactic(auto)]
+
 ghost use Rattle.std.specs.Prelude.{◌≡◌, ◌+◌, ◌-◌, ◌≤◌, min, leb, length};
 ghost use Rattle.ring.specs.Ring.{Within};
 ghost use Rattle.coalescing_buffer.specs.Held.{Extends};

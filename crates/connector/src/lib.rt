@@ -1,4 +1,6 @@
 // Ported from google-cloud-storage 1.21.0, src/storage/bidi_write/connector.rs, Copyright 2026 Google LLC (Apache-2.0); changed: no tasks, channels or heap.
+#![tactic(auto)]
+
 ghost use Rattle.std.specs.Prelude.{◌≡◌, false, ◌<◌, ◌-◌, ◌^◌, length};
 ghost use Rattle.std.proofs.Math.Option.{some};
 ghost use Rattle.bidi_write.specs.View.{given, response_of, size_of};
@@ -23,7 +25,7 @@ pub const BUCKET_PREFIX: [u8; 19] = *b"projects/_/buckets/";
 // The most that a count reaches.
 const MAX_COUNT: u32 = 4294967295;
 
-#[derive(Drop)]
+#[derive(Clone, Copy)]
 pub struct Connector {
     pub spec: AppendObjectSpec,
     pub attempt_count: u32,

@@ -1,4 +1,6 @@
 // Copies a slice into a lent buffer, from `at` on, as fast as the C library does. Each function returns the place behind what it wrote.
+#![tactic(auto)]
+
 ghost use Rattle.std.specs.Prelude.{◌+◌, ◌≤◌, min, ◌≡◌, length};
 ghost use Rattle.copying.specs.Written.{Written};
 
@@ -11,7 +13,7 @@ fn put_run(buffer: &mut [u8], at: usize, src: &[u8]) -> usize
     requires { at + length src.now ≤ length buffer.old }
     ensures { Written src.now buffer.old buffer.new at result }
 {
-    bytes::copy(src, &mut buffer[at..]);
+    buffer[at..at + src.len()].copy_from_slice(src);
     at + src.len()
 }
 
@@ -22,7 +24,8 @@ fn put_block(buffer: &mut [u8], at: usize, src: &[u8]) -> usize
     ensures { Written src.now buffer.old buffer.new at result }
 {
     let mut block = [0u8; BLOCK];
-    let n = bytes::copy(src, &mut block);
+    let n = src.len();
+    block[..n].copy_from_slice(src);
     put_run(buffer, at, &block[..n])
 }
 

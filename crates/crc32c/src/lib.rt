@@ -1,5 +1,7 @@
 // CRC32C as RFC 3720 has it: the generator 0x11EDC6F41, the register preset to ones, in each byte the
 // least significant bit first, the remainder complemented.
+#![tactic(auto)]
+
 mod eight;
 
 ghost use Rattle.std.specs.Prelude.{◌≡◌, ◌%◌, map, length};

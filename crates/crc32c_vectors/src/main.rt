@@ -1,10 +1,13 @@
 // CRC32C's vectors, run: those of RFC 3720, B.4, the check value of "123456789" and the empty message, each whole and
 // put together at every cut, and joins whose second part is up to 2^64 - 1 bytes long. A line for each, then their number.
+#![tactic(auto)]
+
 ghost use Rattle.std.specs.Prelude.{◌≡◌, ◌≤◌, length};
 ghost use Rattle.crc32c.specs.Reg.{crc_of};
 
-use libc::STDOUT_FILENO;
 use std::num::wrapping_add_u64;
+
+const STDOUT_FILENO: i32 = 1;
 
 // How many vectors were run, and how many of them gave another sum.
 #[derive(Drop)]

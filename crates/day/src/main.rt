@@ -1,5 +1,7 @@
 // A locker bank's day against a server that follows document 01's rules, over a link that breaks between any two messages.
 // Arguments: seed, days, breaks a day; 1, 1 and 9 where they are left out.
+#![tactic(auto)]
+
 mod bank;
 mod chance;
 mod copies;

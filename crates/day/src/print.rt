@@ -2,7 +2,8 @@
 use crate::bank::{ENDED_EARLY, EVENTS, NO_ROOM, STUCK, TOO_MANY_CALLS, UNSETTLED};
 use crate::link::{ABORTED, ANSWER, CHUNK, END, ERROR, FINISH, FLUSH, REROUTED, STATUS};
 use crate::tally::Tally;
-use libc::STDOUT_FILENO;
+
+const STDOUT_FILENO: i32 = 1;
 
 pub fn text(bytes: &[u8]) {
     io::write_all(STDOUT_FILENO, bytes);

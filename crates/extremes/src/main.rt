@@ -1,12 +1,15 @@
 // The boundary cases that no record of the program trace can say, run: numbers at the ends of 64 and of 32 bits, bytes that come beside an opening and
 // are not given, and calls after a refused opening. For each its name, and a line for each call as the bench program prints it.
+#![tactic(auto)]
+
 use bench_lines::Mark;
 use bidi_write::{Break, Call, Checksum, Generation, Offset, Response, WriteStatus};
-use libc::STDOUT_FILENO;
 use openings::{Capacity, Opening};
 use state::Condition;
 use text::Line;
 use transport::Session;
+
+const STDOUT_FILENO: i32 = 1;
 
 fn main() {
     opens(b"C 2^64 - 1", opening(usize::MAX, 9), b"", b"");

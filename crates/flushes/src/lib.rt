@@ -1,5 +1,7 @@
 // Ported from google-cloud-storage 1.21.0, src/storage/bidi_write/transport.rs and worker.rs, Copyright 2026 Google LLC (Apache-2.0); changed: no tasks, channels or heap.
 // Flush and finalise: "with held bytes cut them as one chunk and make no waiter; the call is repeated. With none held they send their request and make a waiter."
+#![tactic(auto)]
+
 ghost use Rattle.std.specs.Prelude.{◌≡◌, false, ◌<◌, ◌-◌, ◌^◌, length};
 ghost use Rattle.rules.specs.Limits.{max_waiters};
 ghost use Rattle.rules.specs.Session as R;

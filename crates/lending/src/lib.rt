@@ -1,4 +1,6 @@
 // The host's calls by value, for our own programs: the record is put into a local and lent to the host's call, so that what a program runs is what a host links.
+#![tactic(auto)]
+
 ghost use Rattle.std.specs.Prelude.{length};
 ghost use Rattle.rules.specs.Session as R;
 ghost use Rattle.bidi_write.specs.View.{response_of, break_of};

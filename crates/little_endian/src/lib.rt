@@ -1,1 +1,2 @@
 // Numbers as bytes, the lowest first: definitions and proofs only.
+#![tactic(auto)]

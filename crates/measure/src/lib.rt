@@ -1,5 +1,7 @@
 // The checksum, its join, a request's bytes and a plan for a program in C or Rust to time (tools/performance). Whole uploads are timed through the program
 // `bench`: what such a program calls may hold no enum, so no session can be driven through an export and be promised by the rules.
+#![tactic(auto)]
+
 ghost use Rattle.std.specs.Prelude.{◌≡◌};
 ghost use Rattle.std.proofs.Math.Option.{some};
 ghost use Rattle.crc32c.specs.Reg.{crc_of, joined};

@@ -1,5 +1,7 @@
 // Ported from google-cloud-storage 1.21.0, src/storage/bidi_write/transport.rs, Copyright 2026 Google LLC (Apache-2.0); changed: no tasks, channels or heap.
 // Opening: refusals 1 to 5 in order, else the session that the calls start from.
+#![tactic(auto)]
+
 mod starting;
 
 ghost use Rattle.std.specs.Prelude.{◌≡◌};

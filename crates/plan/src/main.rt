@@ -1,5 +1,8 @@
 // What a list of appends and flushes will need: C and the lengths on standard input, a line on standard output.
-use libc::STDIN_FILENO;
+#![tactic(auto)]
+
+const STDIN_FILENO: i32 = 0;
+
 
 fn main() {
     plan_run::run(STDIN_FILENO);

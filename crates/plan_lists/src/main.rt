@@ -1,5 +1,8 @@
 // Runs lists as the program `plan` does: each argument names a file with one, and is written before its line.
-use libc::STDOUT_FILENO;
+#![tactic(auto)]
+
+const STDOUT_FILENO: i32 = 1;
+
 
 fn main() {
     let n = os::arg_count();

@@ -1,1 +1,2 @@
 // What a list of append lengths will need: definitions and proofs only.
+#![tactic(auto)]

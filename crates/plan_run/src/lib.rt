@@ -1,10 +1,13 @@
 // The run of the program `plan`: a list is read, and what it needs is written as a line. Numbers have four bytes, the lowest first: C, then the entries.
+#![tactic(auto)]
+
 ghost use Rattle.std.specs.Prelude.{◌+◌, ◌*◌, ◌≤◌, length};
 
 use bench_records::{u16_of, u32_of};
 use bidi_write::refusal_number;
-use libc::STDOUT_FILENO;
 use planning::{MAX_ENTRIES, Needs, PlanAnswer, plan};
+
+const STDOUT_FILENO: i32 = 1;
 
 // One more than a plan takes, so that a longer list is refused; what lies behind is not read.
 const ENTRIES: usize = MAX_ENTRIES + 1;

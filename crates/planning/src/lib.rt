@@ -1,4 +1,6 @@
 // What a list of appends and flushes will need, by arithmetic: no session is run, and no byte is looked at.
+#![tactic(auto)]
+
 ghost use Rattle.std.specs.Prelude.{◌≡◌, ◌*◌, ◌/◌, ◌^◌, ◌≤◌, ◌<◌, length};
 ghost use Rattle.std.proofs.Math.Option.{some};
 ghost use Rattle.plan_rules.specs.Plan.{plans};

@@ -1,4 +1,6 @@
 // Writers of varints and fields into a lent buffer, from `at` on. Each returns the place behind what it wrote, and asks the caller for the room.
+#![tactic(auto)]
+
 ghost use Rattle.std.specs.Prelude.{◌≡◌, ◌+◌, ◌*◌, ◌≤◌, [], ◌∷◌, length};
 ghost use Rattle.little_endian.specs.Little.{digits};
 ghost use Rattle.protobuf_format.specs.Varint.{varint_of};

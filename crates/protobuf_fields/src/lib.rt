@@ -1,4 +1,6 @@
 // Reads varints and fields from the caller's bytes, in place: an answer holds numbers and places of the slice, no bytes.
+#![tactic(auto)]
+
 ghost use Rattle.std.specs.Prelude.{◌≡◌, ◌≤◌, length, drop};
 ghost use Rattle.protobuf_format.specs.Varint.{groups, varint};
 ghost use Rattle.protobuf_format.specs.Field.{read_field};

@@ -1,6 +1,8 @@
 // A reader over the caller's bytes that steps from field to field. The borrow checker covers no function that has a struct with a slice in it:
 // each of those is short, is proved by hand, and leaves its work to a function on a slice and numbers. Another crate's code calls `step_at`, whose
 // parameters are plain.
+#![tactic(auto)]
+
 ghost use Rattle.std.specs.Prelude.{◌≡◌};
 ghost use Rattle.protobuf_reader.specs.Steps.{Steps, behind_of, place_in, Moves};
 

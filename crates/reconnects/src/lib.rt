@@ -1,5 +1,7 @@
 // Ported from google-cloud-storage 1.21.0, src/storage/bidi_write/connector.rs and retry_redirect.rs, Copyright 2026 Google LLC (Apache-2.0); changed: no tasks, channels or heap.
 // Break, verdict and failed attempt: `Connector::reconnect` cut where the host dials, waits and judges.
+#![tactic(auto)]
+
 ghost use Rattle.std.specs.Prelude.{◌≡◌, false, cond};
 ghost use Rattle.rules.specs.Message as M;
 ghost use Rattle.rules.specs.Session as R;

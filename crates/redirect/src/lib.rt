@@ -1,4 +1,6 @@
 // Ported from google-cloud-storage 1.21.0, src/storage/bidi_write/redirect.rs, Copyright 2026 Google LLC (Apache-2.0); changed: no tasks, channels or heap.
+#![tactic(auto)]
+
 ghost use Rattle.std.specs.Prelude.{◌≡◌, ℕ};
 ghost use Rattle.std.proofs.Math.Option.{some};
 ghost use Rattle.bidi_write.specs.View.{break_of, new_generation_of, redirect_of};

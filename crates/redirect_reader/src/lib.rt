@@ -1,4 +1,6 @@
 // Reads a redirect from the caller's bytes, in place: an answer holds places of the slice, no bytes.
+#![tactic(auto)]
+
 ghost use Rattle.std.specs.Prelude.{◌≡◌, ◌+◌, ◌≤◌, length, take, drop};
 ghost use Rattle.protobuf_format.specs.Field.{int, bytes, field};
 ghost use Rattle.protobuf_format.specs.Message.{put};

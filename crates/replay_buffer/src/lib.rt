@@ -1,5 +1,7 @@
 // Ported from google-cloud-storage 1.21.0, src/storage/bidi_write/replay_buffer.rs, Copyright 2026 Google LLC (Apache-2.0); changed: no tasks, channels or heap.
 // Unacknowledged chunks: their bytes lie in a ring over the lent store, a word for each in a ring over the lent table.
+#![tactic(auto)]
+
 ghost use Rattle.std.specs.Prelude.{◌≡◌, false, ◌<◌, ◌≤◌, ◌^◌, leb, pos, ◌+ℤ◌, ◌-ℤ◌};
 ghost use lib.ListN.{length};
 ghost use Rattle.std.specs.Int.Signed.{lt_z, le_z};
@@ -15,7 +17,7 @@ use bidi_write::{Difference, MAX_CAPACITY, MAX_WRITE_CHUNK_SIZE, Offset};
 use chunk_words::{len_of, pack, sum_of};
 
 // Chunks lie end to end and end at the write offset, so their offsets are not kept.
-#[derive(Drop)]
+#[derive(Clone, Copy)]
 pub struct ReplayBuffer {
     pub capacity: usize,
     // the ring over the store: where the stored bytes begin, and how many there are
@@ -27,7 +29,7 @@ pub struct ReplayBuffer {
 }
 
 // A stored chunk; its bytes fill the front of the out buffer.
-#[derive(Drop)]
+#[derive(Clone, Copy)]
 pub struct Chunk {
     pub write_offset: Offset,
     pub length: usize,
@@ -35,14 +37,14 @@ pub struct Chunk {
 }
 
 // What an acknowledgement leaves, and how many bytes it released.
-#[derive(Drop)]
+#[derive(Clone, Copy)]
 pub struct Acked {
     pub buffer: ReplayBuffer,
     pub released: usize,
 }
 
 // Whole chunks at the front, and how many bytes they have.
-#[derive(Drop)]
+#[derive(Clone, Copy)]
 struct Front {
     chunks: usize,
     bytes: usize,

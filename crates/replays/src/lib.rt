@@ -1,6 +1,8 @@
 // Ported from google-cloud-storage 1.21.0, src/storage/bidi_write/worker.rs, Copyright 2026 Google LLC (Apache-2.0); changed: no tasks, channels or heap.
 // Next request: "Replay hands out one request a call: stored chunks, waiting requests, a bare flush if the watermark holds, then *done*, live again."
 // And a send reported failed, which ends a replay.
+#![tactic(auto)]
+
 ghost use Rattle.std.specs.Prelude.{◌≡◌, false, not, ◌&&◌, ◌+◌, ◌<◌, ◌≤◌, ◌^◌, length};
 ghost use Rattle.rules.specs.Limits.{max_waiters};
 ghost use Rattle.rules.specs.Session as R;

@@ -1,4 +1,6 @@
 // Ported from google-cloud-storage 1.21.0, src/storage/bidi_write/retry_redirect.rs, Copyright 2026 Google LLC (Apache-2.0); changed: no tasks, channels or heap.
+#![tactic(auto)]
+
 ghost use Rattle.std.specs.Prelude.{◌≡◌, not};
 ghost use Rattle.retry_redirect.specs.View.{result_of};
 ghost use Rattle.rules.specs.Reconnect.{ruling, no_verdict};

@@ -1,6 +1,8 @@
 // A ring over the first `size` elements of a lent slice.
 //
 // A range of the ring is at most two straight runs: it is split once, where it meets the ring's end.
+#![tactic(auto)]
+
 ghost use Rattle.std.specs.Prelude.{◌≡◌, [], ◌∷◌, ◌++◌, ◌+◌, ◌≤◌, min, length, take, drop, get_or};
 ghost use Rattle.crc32c.specs.Reg.{crc_of};
 ghost use Rattle.ring.specs.Ring.{wrapped, ring, part, Within, Written};
@@ -24,7 +26,7 @@ fn copy(dst: &mut [u8], at: usize, src: &[u8])
     requires { at + length src.now ≤ length dst.old }
     ensures { dst.new ≡ take at dst.old ++ src.now ++ drop (at + length src.now) dst.old }
 {
-    bytes::copy(src, &mut dst[at..]);
+    dst[at..at + src.len()].copy_from_slice(src);
 }
 
 // The first n bytes of src go to the ring's places at, at + 1, .., counted from head.

@@ -1,1 +1,2 @@
 // The rules of the upload session: definitions and proofs only. What each file of specs/ holds stands at its head.
+#![tactic(auto)]

@@ -1,6 +1,8 @@
 // Ported from google-cloud-storage 1.21.0, src/storage/bidi_write/transport.rs, Copyright 2026 Google LLC (Apache-2.0); changed: no tasks, channels or heap.
 // The host's calls: each is lent the session record, makes the core's call and stores what it left ("the host's outer calls are lent the session
 // record and update it"). A refused call leaves the record as it was, whatever it holds.
+#![tactic(auto)]
+
 ghost use Rattle.std.specs.Prelude.{length};
 ghost use Rattle.rules.specs.Session as R;
 ghost use Rattle.bidi_write.specs.View.{response_of, break_of};

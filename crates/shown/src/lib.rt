@@ -1,5 +1,7 @@
 // Ported from google-cloud-storage 1.21.0, src/storage/bidi_write/transport.rs, Copyright 2026 Google LLC (Apache-2.0); changed: no tasks, channels or heap.
 // What a host may see of its session, by value, and of an answer.
+#![tactic(auto)]
+
 ghost use Rattle.std.specs.Prelude.{◌≡◌};
 ghost use Rattle.transport.specs.View.{handed, released};
 ghost use Rattle.shown.specs.Shown.{Shown, Dials};

@@ -1,4 +1,6 @@
 // Ported from google-cloud-storage 1.21.0, src/storage/bidi_write/state.rs, Copyright 2026 Google LLC (Apache-2.0); changed: no tasks, channels or heap.
+#![tactic(auto)]
+
 ghost use Rattle.std.specs.Prelude.{◌≡◌, false, ◌&&◌, ◌≤◌, length, take};
 ghost use Rattle.std.proofs.Math.Option.{some, get_or};
 ghost use Rattle.bidi_write.specs.View.{generation_of, new_generation_of, status_of, given, response_of, redirect_of};
@@ -18,7 +20,7 @@ pub const MAX_WRITE_HANDLE: usize = 1024;
 
 pub const MAX_ROUTING_TOKEN: usize = 512;
 
-#[derive(Drop)]
+#[derive(Clone, Copy)]
 pub struct Bucket {
     pub bytes: [u8; MAX_BUCKET],
     pub length: usize,
@@ -31,12 +33,13 @@ impl Bucket {
         ensures length_bound { result.length ≤ 256 }
     {
         let mut bytes = [0u8; MAX_BUCKET];
-        let length = bytes::copy(name, &mut bytes);
+        let length = name.len();
+        bytes[..length].copy_from_slice(name);
         Bucket { bytes, length }
     }
 }
 
-#[derive(Drop)]
+#[derive(Clone, Copy)]
 pub struct Object {
     pub bytes: [u8; MAX_OBJECT],
     pub length: usize,
@@ -49,13 +52,14 @@ impl Object {
         ensures length_bound { result.length ≤ 1024 }
     {
         let mut bytes = [0u8; MAX_OBJECT];
-        let length = bytes::copy(name, &mut bytes);
+        let length = name.len();
+        bytes[..length].copy_from_slice(name);
         Object { bytes, length }
     }
 }
 
 // An opaque handle, if one is given.
-#[derive(Drop)]
+#[derive(Clone, Copy)]
 pub struct WriteHandle {
     pub given: bool,
     pub bytes: [u8; MAX_WRITE_HANDLE],
@@ -70,7 +74,8 @@ impl WriteHandle {
     {
         let mut bytes = [0u8; MAX_WRITE_HANDLE];
         if present {
-            let length = bytes::copy(handle, &mut bytes);
+            let length = handle.len();
+            bytes[..length].copy_from_slice(handle);
             return WriteHandle {
                 given: present,
                 bytes,
@@ -98,7 +103,7 @@ impl WriteHandle {
 }
 
 // A routing token, if one is given.
-#[derive(Drop)]
+#[derive(Clone, Copy)]
 pub struct RoutingToken {
     pub given: bool,
     pub bytes: [u8; MAX_ROUTING_TOKEN],
@@ -113,7 +118,8 @@ impl RoutingToken {
     {
         let mut bytes = [0u8; MAX_ROUTING_TOKEN];
         if present {
-            let length = bytes::copy(token, &mut bytes);
+            let length = token.len();
+            bytes[..length].copy_from_slice(token);
             return RoutingToken {
                 given: present,
                 bytes,
@@ -129,13 +135,13 @@ impl RoutingToken {
 }
 
 // A condition on the metageneration.
-#[derive(Drop)]
+#[derive(Clone, Copy)]
 pub enum Condition {
     Absent,
     Is(Metageneration),
 }
 
-#[derive(Drop)]
+#[derive(Clone, Copy)]
 pub struct AppendObjectSpec {
     pub bucket: Bucket,
     pub object: Object,
@@ -208,7 +214,7 @@ impl AppendObjectSpec {
 }
 
 // The Write form, which creates an object, uses bucket, object, token and conditions only.
-#[derive(Drop)]
+#[derive(Clone, Copy)]
 pub struct AppendObjectSpecState {
     pub append: bool,
     pub spec: AppendObjectSpec,

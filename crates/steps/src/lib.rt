@@ -1,4 +1,6 @@
 // Any call of a session by value, for our own programs: the rules' `step`. The record is put into a local and lent to the host's call.
+#![tactic(auto)]
+
 ghost use Rattle.std.specs.Prelude.{length};
 ghost use Rattle.bidi_write.specs.View.{call_of};
 ghost use Rattle.transport.specs.Promise.{Promise};

@@ -1,4 +1,6 @@
 // Makes every call that the records on standard input name, and prints after each what it answered and the whole state: docs/TRACE.md.
+#![tactic(auto)]
+
 mod script;
 
 use script::{Stand, play};

@@ -1,8 +1,9 @@
 // Records out of standard input, by way of a buffer. Of its bytes those from `at` up to `end` are not used yet.
 use crate::fields::CUT;
 use crate::{Record, read};
-use libc::STDIN_FILENO;
 use trace_text::part;
+
+const STDIN_FILENO: i32 = 0;
 
 // A record, and where the buffer's bytes end.
 #[derive(Drop)]

@@ -1,4 +1,6 @@
 // The records of docs/TRACE.md.
+#![tactic(auto)]
+
 pub mod fields;
 pub mod input;
 mod message;

@@ -1,8 +1,11 @@
 // What is printed goes to a buffer, of which the first n bytes wait. Each function takes n and gives the new one.
+#![tactic(auto)]
+
 ghost use Rattle.std.specs.Prelude.{◌≤◌};
 
-use libc::STDOUT_FILENO;
 use text::Line;
+
+const STDOUT_FILENO: i32 = 1;
 
 // Writes what waits.
 pub fn flush(out: &[u8], n: usize) {

@@ -1,5 +1,7 @@
 // Ported from google-cloud-storage 1.21.0, src/storage/bidi_write/transport.rs, Copyright 2026 Google LLC (Apache-2.0); changed: no tasks, channels or heap.
 // The session by value: its record and answers, what every call shares, and close. The other calls are in crates above this one.
+#![tactic(auto)]
+
 pub mod close;
 pub mod guard;
 pub mod parts;
@@ -9,14 +11,14 @@ use bidi_write::{Cause, Checksum, Offset, Refusal, Request};
 use worker::Worker;
 
 // How far a replay has come: the next request, and the bytes of the chunks before it.
-#[derive(Drop)]
+#[derive(Clone, Copy)]
 pub struct Cursor {
     pub next: usize,
     pub bytes: usize,
 }
 
 // A verdict is awaited on a redirect or not.
-#[derive(Drop)]
+#[derive(Clone, Copy)]
 pub enum Phase {
     Live,
     Closing,
@@ -27,14 +29,14 @@ pub enum Phase {
 }
 
 // What the last accepted call sent.
-#[derive(Drop)]
+#[derive(Clone, Copy)]
 pub enum Sent {
     Nothing,
     Request,
     BareFlush,
 }
 
-#[derive(Drop)]
+#[derive(Clone, Copy)]
 pub struct Session {
     // the chunk limit in bytes
     pub limit: usize,
@@ -51,14 +53,14 @@ pub struct Session {
     pub worker: Worker,
 }
 
-#[derive(Drop)]
+#[derive(Clone, Copy)]
 pub enum MaybeRequest {
     Absent,
     Present(Request),
 }
 
 // Waiters completed, lowest numbers first, bytes released, and a bare flush.
-#[derive(Drop)]
+#[derive(Clone, Copy)]
 pub struct Completed {
     pub waiters: usize,
     pub released: usize,
@@ -66,7 +68,7 @@ pub struct Completed {
 }
 
 // Why a session ended, the waiters completed and the bytes released before, and the waiters that failed or were dropped.
-#[derive(Drop)]
+#[derive(Clone, Copy)]
 pub struct Ending {
     pub cause: Cause,
     pub completed: usize,
@@ -75,7 +77,7 @@ pub struct Ending {
 }
 
 // What a call answers. A refused call changes nothing.
-#[derive(Drop)]
+#[derive(Clone, Copy)]
 pub enum Answer {
     Refused(Refusal),
     // append: bytes taken, and the request of the chunk that was cut
@@ -96,7 +98,7 @@ pub enum Answer {
     Ends(Ending),
 }
 
-#[derive(Drop)]
+#[derive(Clone, Copy)]
 pub struct Outcome {
     pub session: Session,
     pub answer: Answer,

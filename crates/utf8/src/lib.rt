@@ -1,4 +1,6 @@
 // Whether bytes are UTF-8.
+#![tactic(auto)]
+
 ghost use Rattle.std.specs.Prelude.{◌≡◌};
 ghost use Rattle.utf8.specs.Utf8.{characters, after, utf8};
 ghost use Rattle.utf8.specs.Wanted.{want_of, ranges_of, Steps};

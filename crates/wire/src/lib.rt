@@ -1,4 +1,6 @@
 // A request in protobuf encoding, google.storage.v2.BidiWriteObjectRequest, written into a lent buffer.
+#![tactic(auto)]
+
 ghost use Rattle.std.specs.Prelude.{◌≡◌, ℕ, ◌+◌, ◌^◌, ◌<◌, ◌≤◌, length};
 ghost use Rattle.std.proofs.Math.Option.{some, map};
 ghost use Rattle.std.specs.Int.{w64};

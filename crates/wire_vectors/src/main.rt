@@ -8,12 +8,17 @@
 //   19 u16 how many bytes of data are lent, at most 16,384; byte i is i mod 251
 //   21 u16 the buffer's length, at most 32,768
 // A record that is cut, or that has another flag, ends the run.
+#![tactic(auto)]
+
 ghost use Rattle.std.specs.Prelude.{◌≤◌};
 
 use bench_records::{u16_of, u32_of, u64_of};
 use bidi_write::{Checksum, ChecksummedData, Data, Offset, Request, i64_of, refusal_number};
-use libc::{STDIN_FILENO, STDOUT_FILENO};
 use wire::{WriteAnswer, write};
+
+const STDIN_FILENO: i32 = 0;
+
+const STDOUT_FILENO: i32 = 1;
 
 const RECORD: usize = 23;
 

@@ -1,4 +1,6 @@
 // Ported from google-cloud-storage 1.21.0, src/storage/bidi_write/worker.rs, Copyright 2026 Google LLC (Apache-2.0); changed: no tasks, channels or heap.
+#![tactic(auto)]
+
 ghost use Rattle.std.specs.Prelude.{◌≡◌, not, cond, ◌&&◌, ◌||◌, List, [], ◌∷◌, ◌++◌, ℕ, ◌+◌, ◌*◌, ◌-◌, ◌<◌, ◌≤◌, ◌^◌, leb, eqb, length, take, drop};
 ghost use Rattle.std.proofs.Math.Option.{some};
 ghost use Rattle.std.proofs.Math.ListN.{get_elem?};
@@ -20,14 +22,14 @@ use replay_buffer::ReplayBuffer;
 pub const MAX_PENDING: usize = 16;
 
 // Which kind of confirmation a request waits for.
-#[derive(Drop)]
+#[derive(Clone, Copy)]
 pub enum PendingKind {
     Flush,
     Finalize,
 }
 
 // A flush or finalize request that awaits the server's confirmation.
-#[derive(Drop)]
+#[derive(Clone, Copy)]
 pub struct PendingRequest {
     pub kind: PendingKind,
     pub write_offset: Offset,
@@ -35,13 +37,13 @@ pub struct PendingRequest {
 }
 
 // The waiting requests, oldest first. Their numbers follow from how many were made.
-#[derive(Drop)]
+#[derive(Clone, Copy)]
 pub struct PendingRequests {
     pub requests: [PendingRequest; MAX_PENDING],
     pub count: usize,
 }
 
-#[derive(Drop)]
+#[derive(Clone, Copy)]
 pub struct Worker {
     pub connector: Connector,
     pub replay_buffer: ReplayBuffer,
