@@ -143,9 +143,9 @@ flow_persists {v} n h = record {
 is_at_lem : (z : ℤ) (b : Bytes) → z ≡ pos (length b) → is_at z b ≡ true
 is_at_lem z b e = ap (λ (x : ℤ). is_at x b) e ∙ eq-eqb (length b) (length b) refl
 
-is_sum : (o : Option ℕ) (b : Bytes) → ((c : ℕ) → o ≡ some c → c ≡ crc_of b) → is_sum o b ≡ true
-is_sum none b h = refl
-is_sum (some c) b h = eq-eqb c (crc_of b) (h c refl)
+is_sum_lem : (o : Option ℕ) (b : Bytes) → ((c : ℕ) → o ≡ some c → c ≡ crc_of b) → is_sum o b ≡ true
+is_sum_lem none b h = refl
+is_sum_lem (some c) b h = eq-eqb c (crc_of b) (h c refl)
 
 module _ {K : Bytes} {p : ℕ} {ph : Phase} {cs : List ReplayChunk} where
   flow_chunk : (r : Request) (d : ChecksummedData) (rest : List Request) (bytes had : ℕ) (v : Server) → r.checksummed_data ≡ some d
@@ -182,7 +182,7 @@ module _ {K : Bytes} {p : ℕ} {ph : Phase} {cs : List ReplayChunk} where
       (λ t. record { flows = λ l. clash (right ((h.flows l).fits.0.finish f)) t })
     where
       right : RightFinish (v.stored.object ++ v.stored.tail) r → (is_at r.write_offset (v.stored.object ++ v.stored.tail) && is_sum r.object_checksum (v.stored.object ++ v.stored.tail)) ≡ true
-      right g = and-true _ _ (is_at_lem r.write_offset (v.stored.object ++ v.stored.tail) g.stands) (is_sum r.object_checksum (v.stored.object ++ v.stored.tail) g.sum)
+      right g = and-true _ _ (is_at_lem r.write_offset (v.stored.object ++ v.stored.tail) g.stands) (is_sum_lem r.object_checksum (v.stored.object ++ v.stored.tail) g.sum)
 
   flow_one : (r : Request) (o : Option ChecksummedData) (rest : List Request) (bytes had : ℕ) (v : Server) → r.checksummed_data ≡ o
       → FlowOK K p ph cs (on_link (set_requests (r ∷ rest)) v) → FlowOK K p ph cs (takes_one r o bytes had (on_link (set_requests rest) v))
