@@ -8,11 +8,9 @@ use Rattle.bidi_write.specs.declared.Generation.{Generation}
 use Rattle.bidi_write.specs.declared.Metageneration.{Metageneration}
 use Rattle.bidi_write.specs.declared.Checksum.{Checksum}
 use Rattle.bidi_write.specs.declared.Checksum.TheVariants as checksum
-use Rattle.bidi_write.specs.declared.ChecksummedData.{ChecksummedData}
 use Rattle.bidi_write.specs.declared.Data.{Data}
 use Rattle.bidi_write.specs.declared.Data.TheVariants as payload
 use Rattle.bidi_write.specs.declared.Request.{Request}
-use Rattle.bidi_write.specs.declared.Resource.{Resource}
 use Rattle.bidi_write.specs.declared.WriteStatus.{WriteStatus}
 use Rattle.bidi_write.specs.declared.WriteStatus.TheVariants as status
 use Rattle.bidi_write.specs.declared.Response.{Response}

@@ -1,5 +1,4 @@
--- `bidi_write::i64_of` meets its contract: the upper half of the bits are the numbers below 0.
-use borrow.Author.Rules.{rules}
+-- from -1 down
 use mathlib.Core.Path.{◌≡◌, refl, sym, ap, ◌∙◌}
 use Prim.Native.Nat.{ℕ, zero, suc, ◌-◌, ◌≤◌, ◌<◌, ◌^◌}
 use native.Mathlib.Omega.{arith}
@@ -7,15 +6,14 @@ use lib.IntN.{ℤ, pos, negsuc, ◌-ℤ◌}
 use mir.Syntax.{w64}
 use mir.Val.{to_z, SFits}
 use mir.Facts.{to_z_pos, to_z-neg, to_z-of_z}
-use Rattle.bidi_write.proofs.i64_of.Statement.{statement}
-use Rattle.bidi_write.proofs.i64_of.Tie as tie
+use Rattle.bidi_write.proofs.i64_of.Goals as goal
 
--- from -1 down
 below-zero : (k : ℕ) → negsuc 0 -ℤ pos k ≡ negsuc k
 below-zero zero = refl
 below-zero (suc k) = ap negsuc (omega arith)
 
 -- k below -1
+
 minus : (k : ℕ) → k < 2 ^ 63 → negsuc 0 -ℤ to_z w64 k ≡ negsuc k
 minus k h = ap (λ (z : ℤ). negsuc 0 -ℤ z) (to_z_pos w64 h) ∙ below-zero k
 
@@ -28,23 +26,8 @@ upper n l h =
     let e : 2 ^ 64 - suc (0xffff_ffff_ffff_ffff - n) ≡ n = omega arith in
     minus (0xffff_ffff_ffff_ffff - n) k ∙ sym (to_z-neg w64 (0xffff_ffff_ffff_ffff - n) k) ∙ ap (to_z w64) e
 
-cast-result : tie.Need-overflow-cast-result
-cast-result c = search rules
+pub overflow_sub-result-2 : goal.overflow_sub-result-2
+overflow_sub-result-2 c = fits (0xffff_ffff_ffff_ffff - c.args.n) (omega arith)
 
-returns : tie.Need-returns
-returns c = search rules
-
-sub-result : tie.Need-overflow-sub-result
-sub-result c = search rules
-
-cast-result-2 : tie.Need-overflow-cast-result-2
-cast-result-2 c = search rules
-
-sub-result-2 : tie.Need-overflow-sub-result-2
-sub-result-2 c = fits (0xffff_ffff_ffff_ffff - c.before.args.n) (omega arith)
-
-returns-2 : tie.Need-returns-2
-returns-2 c = to_z-of_z (fits (0xffff_ffff_ffff_ffff - c.before.args.n) (omega arith)) ∙ upper c.before.args.n (omega arith) (omega arith)
-
-pub i64-of-spec : {M : Type 1} → statement M
-i64-of-spec = tie.close (tie.spec cast-result returns sub-result cast-result-2 sub-result-2 returns-2)
+pub returns : goal.returns
+returns c = to_z-of_z (fits (0xffff_ffff_ffff_ffff - c.args.n) (omega arith)) ∙ upper c.args.n (omega arith) (omega arith)
