@@ -1,11 +1,11 @@
 -- One piece written behind another.
 -- Assumes nothing.
-use mathlib.Core.Path.{◌≡◌, refl, ap, ◌∙◌}
+use mathlib.Core.Path.{◌≡◌, refl, ap, ◌∙◌, subst}
 use mathlib.Core.List.{List, [], ◌∷◌, ◌++◌}
 use Prim.Native.Nat.{ℕ, suc, ◌+◌, ◌-◌, ◌≤◌}
 use native.Mathlib.Omega.{arith}
 use lib.ListN.{length, set, take, drop, length-append, length-take}
-use lib.Seq.{sets, length-sets, take-add, take_at, take-length}
+use lib.Seq.{sets, length-sets, take-add, take_at}
 use Rattle.copying.specs.Written.{Written}
 
 sets_append : (a b buffer : List ℕ) (i : ℕ) → sets (sets buffer i a) (i + length a) b ≡ sets buffer i (a ++ b)
@@ -42,5 +42,9 @@ pub fits_up : (b : List ℕ) (k m : ℕ) {x y : List ℕ} {at i : ℕ} → k ≤
 fits_up b k m h l f p = omega (arith, p.place, written-length p, length-take k b, length-take (m - k) (drop k b))
 
 -- what was copied to the front of an array
-pub front : (b d e : List ℕ) → e ≡ take (length b) b ++ drop (length b) d → take (length b) e ≡ b
-front b d e h = rw (h, take-length b) (take_at b (drop (length b) d) (length b) refl)
+pub front : (b n d : List ℕ) → n ≡ b → take (length b) (n ++ d) ≡ b
+front b n d e = rw e (take_at b d (length b) refl)
+
+-- the bytes are what they equal
+pub written-same : {a b x y : List ℕ} {at i : ℕ} → Written a x y at i → a ≡ b → Written b x y at i
+written-same {x = x} {y = y} {at = at} {i = i} p e = subst (λ (l : List ℕ). Written l x y at i) e p
