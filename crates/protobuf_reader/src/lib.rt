@@ -1,6 +1,4 @@
-// A reader over the caller's bytes that steps from field to field. The borrow checker covers no function that has a struct with a slice in it:
-// each of those is short, is proved by hand, and leaves its work to a function on a slice and numbers. Another crate's code calls `step_at`, whose
-// parameters are plain.
+// A reader over the caller's bytes that steps from field to field. Another crate's code calls `step_at`, whose parameters are plain.
 #![tactic(auto)]
 
 ghost use Rattle.std.specs.Prelude.{◌≡◌};
@@ -8,14 +6,14 @@ ghost use Rattle.protobuf_reader.specs.Steps.{Steps, behind_of, place_in, Moves}
 
 use protobuf_fields::{Found, get_field};
 
-#[derive(Drop)]
+#[derive(Clone, Copy)]
 pub struct Reader<'a> {
     pub bytes: &'a [u8],
     pub at: usize,
 }
 
 // The field at a place, or that the bytes end there.
-#[derive(Drop)]
+#[derive(Clone, Copy)]
 pub enum Step {
     Field(Found),
     End,

@@ -13,7 +13,7 @@ use Rattle.protobuf_format.specs.Reading.{Bytes, ◌>>=◌}
 use Rattle.protobuf_format.specs.Field as F
 use Rattle.protobuf_format.specs.Message.{put, merge}
 use Rattle.utf8.specs.Utf8.{utf8}
-use Rattle.redirect_format.specs.Redirect.{Redirect, generation, redirect, set_token, set_handle, redirect_rows, read_redirect}
+use Rattle.redirect_format.specs.Redirect.{Redirect, redirect, set_token, set_handle, redirect_rows, read_redirect}
 use Rattle.protobuf_fields.specs.declared.Found.{Found}
 use Rattle.protobuf_reader.specs.Steps.{Steps, behind_of}
 use Rattle.protobuf_reader.specs.declared.Step.TheVariants as step

@@ -23,7 +23,7 @@ const GENERATION: u64 = 3;
 const HANDLE_BYTES: u64 = 1;
 
 // Where some bytes start and how many they are, if there are any.
-#[derive(Drop)]
+#[derive(Clone, Copy)]
 pub struct Part {
     pub has: bool,
     pub start: usize,
