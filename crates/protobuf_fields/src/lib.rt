@@ -37,7 +37,7 @@ pub enum Got {
 }
 
 // A field by its wire type: its number; its value, or where the value's bytes start (and how many there are); and the place behind it.
-#[derive(Drop)]
+#[derive(Clone, Copy)]
 pub enum Found {
     Int(u64, u64, usize),
     Fixed64(u64, usize, usize),

@@ -8,14 +8,14 @@ ghost use Rattle.protobuf_reader.specs.Steps.{Steps, behind_of, place_in, Moves}
 
 use protobuf_fields::{Found, get_field};
 
-#[derive(Drop)]
+#[derive(Clone, Copy)]
 pub struct Reader<'a> {
     pub bytes: &'a [u8],
     pub at: usize,
 }
 
 // The field at a place, or that the bytes end there.
-#[derive(Drop)]
+#[derive(Clone, Copy)]
 pub enum Step {
     Field(Found),
     End,

@@ -23,7 +23,7 @@ const GENERATION: u64 = 3;
 const HANDLE_BYTES: u64 = 1;
 
 // Where some bytes start and how many they are, if there are any.
-#[derive(Drop)]
+#[derive(Clone, Copy)]
 pub struct Part {
     pub has: bool,
     pub start: usize,
@@ -38,7 +38,7 @@ enum Handle {
 }
 
 // A redirect's token and handle, and its generation as 64 bits, if it is known.
-#[derive(Drop)]
+#[derive(Clone, Copy)]
 pub struct Seen {
     pub token: Part,
     pub handle: Part,
