@@ -16,7 +16,7 @@ use text::Line;
 use transport::Answer;
 
 // What a line begins with: the call that it is printed for. The bench program makes all but the last two.
-#[derive(Drop)]
+#[derive(Clone, Copy)]
 pub enum Mark {
     Open,
     Append,

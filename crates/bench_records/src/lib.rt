@@ -33,7 +33,7 @@ const VE: u16 = b'V' as u16 + 256 * b'E' as u16;
 const NX: u16 = b'N' as u16 + 256 * b'X' as u16;
 
 // A record that makes a call; an append's bytes come beside it.
-#[derive(Drop)]
+#[derive(Clone, Copy)]
 pub enum CallRecord {
     Append,
     Flush,

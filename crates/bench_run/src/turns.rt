@@ -11,7 +11,7 @@ use bench_records::{CallRecord, Reading, Record};
 use bench_turns::Rest;
 use transport::Answer;
 
-#[derive(Drop)]
+#[derive(Clone, Copy)]
 pub enum Turn {
     // A call; the bytes at hand begin with so many of its own.
     Call(CallRecord, usize),

@@ -1,29 +1,27 @@
 // Runs streams of records as the bench program does: each argument names a file of them, and is written before its lines.
 #![tactic(auto)]
 
+use std::fs::File;
+use std::os::fd::AsRawFd;
+
 const STDOUT_FILENO: i32 = 1;
 
-
-fn main() {
-    let n = os::arg_count();
-    let mut i = 1;
-    while i < n {
-        play(i);
-        i += 1;
+fn main(rt: HostRuntime) -> std::io::Result<()> {
+    for name in std::env::args(&rt)?.skip(1) {
+        play(&rt, name.as_str())?;
     }
+    Ok(())
 }
 
-fn play(i: usize) {
-    let mut name = io::buffer();
-    let n = os::arg(i, &mut name);
-    io::write_all(STDOUT_FILENO, &name[..n]);
+fn play(rt: &HostRuntime, name: &str) -> std::io::Result<()> {
+    io::write_all(STDOUT_FILENO, name.as_bytes());
     io::write_all(STDOUT_FILENO, b"\n");
-    let fd = os::open_read(&name[..n]);
-    if fd < 0 {
-        os::fail(&name[..n]);
-        return;
+    match File::open(rt, name) {
+        Ok(file) => {
+            bench_run::run(file.as_raw_fd());
+            io::write_all(STDOUT_FILENO, b"\n");
+            Ok(())
+        }
+        Err(e) => eprintln!(rt; "{name}: {e}"),
     }
-    bench_run::run(fd);
-    libc::close(fd);
-    io::write_all(STDOUT_FILENO, b"\n");
 }

@@ -23,7 +23,7 @@ pub const UNSETTLED: u64 = 105;
 // The verdict of a host that never gives up.
 pub const GO_ON: u8 = 1;
 
-#[derive(Drop)]
+#[derive(Clone, Copy)]
 pub struct Bank {
     // the session's phase, as the answers told it
     pub phase: u8,

@@ -13,7 +13,7 @@ pub const LONGEST: usize = 9000;
 
 const MOST: u64 = 3;
 
-#[derive(Drop)]
+#[derive(Clone, Copy)]
 pub struct Copies {
     // where events end, each at the remainder of its number; those kept come behind those dropped
     pub ends: [u64; 3],

@@ -30,7 +30,7 @@ pub const REDIRECT: u64 = 5;
 // "Redirects 1 to 3 turn 1 to 3 into continue."
 const MOST_REDIRECTS: u64 = 3;
 
-#[derive(Drop)]
+#[derive(Clone, Copy)]
 pub struct Link {
     // still to come today: breaks, and about so many messages
     pub breaks: u64,

@@ -14,6 +14,7 @@ mod server;
 mod tally;
 mod world;
 
+use std::env::{Env, FillError};
 use std::num::wrapping_add_u64;
 use tally::Tally;
 
@@ -24,11 +25,11 @@ const MOST_BREAKS: u64 = 1000;
 // What is no number counts as one that is too large.
 const NO_NUMBER: u64 = u64::MAX;
 
-fn main() {
-    let seed = argument(1, 1);
-    let days = argument(2, 1);
-    let breaks = argument(3, 9);
-    if are_right(seed, days, breaks) {
+fn main(rt: HostRuntime) {
+    let seed = argument(&rt, 1, 1);
+    let days = argument(&rt, 2, 1);
+    let breaks = argument(&rt, 3, 9);
+    if are_right(&rt, seed, days, breaks) {
         report(seed, days, breaks);
     } else {
         print::usage();
@@ -37,17 +38,23 @@ fn main() {
 
 // ---- the arguments
 
-fn argument(i: usize, default: u64) -> u64 {
-    if os::arg_count() <= i {
-        return default;
-    }
+fn argument(env: &impl Env, i: usize, default: u64) -> u64 {
     let mut word = [0u8; 18];
-    let n = os::arg(i, &mut word);
-    // empty, or longer than 18 bytes
-    if n == 0 {
-        return NO_NUMBER;
+    match env.arg(i, &mut word) {
+        // empty
+        Ok(0) => NO_NUMBER,
+        Ok(n) => number(&word[..n]),
+        Err(FillError::TooLong) => NO_NUMBER,
+        Err(FillError::NotPresent) => default,
     }
-    number(&word[..n])
+}
+
+fn is_given(env: &impl Env, i: usize) -> bool {
+    let mut word = [0u8; 18];
+    match env.arg(i, &mut word) {
+        Err(FillError::NotPresent) => false,
+        _ => true,
+    }
 }
 
 fn number(digits: &[u8]) -> u64 {
@@ -74,8 +81,8 @@ fn further(n: u64, digit: u8) -> u64 {
     n * 10 + (digit - b'0') as u64
 }
 
-fn are_right(seed: u64, days: u64, breaks: u64) -> bool {
-    if 4 < os::arg_count() {
+fn are_right(env: &impl Env, seed: u64, days: u64, breaks: u64) -> bool {
+    if is_given(env, 4) {
         return false;
     }
     if seed == NO_NUMBER {

@@ -17,13 +17,13 @@ pub const RESOURCE: u8 = 2;
 
 pub const FINALISED: u8 = 3;
 
-#[derive(Drop)]
+#[derive(Clone, Copy)]
 pub struct Said {
     pub kind: u8,
     pub size: u64,
 }
 
-#[derive(Drop)]
+#[derive(Clone, Copy)]
 pub struct Server {
     // the key of the journal that the bytes must be of
     pub journal: u64,

@@ -7,7 +7,7 @@ use crate::server::Server;
 use crate::world::World;
 use std::num::wrapping_add_u64;
 
-#[derive(Drop)]
+#[derive(Clone, Copy)]
 pub struct Tally {
     pub events: u64,
     pub bytes: u64,

@@ -16,7 +16,7 @@ use std::num::wrapping_add_u64;
 use transport::{Answer, MaybeRequest};
 use wire::WriteAnswer;
 
-#[derive(Drop)]
+#[derive(Clone, Copy)]
 pub struct World {
     // of what is drawn next, and of the journal
     pub key: u64,

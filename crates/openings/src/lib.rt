@@ -16,14 +16,14 @@ use replay_buffer::ring_size;
 use state::{Condition, MAX_OBJECT, MAX_ROUTING_TOKEN, MAX_WRITE_HANDLE};
 use transport::Session;
 
-#[derive(Drop)]
+#[derive(Clone, Copy)]
 pub enum Capacity {
     Default,
     Asked(usize),
 }
 
 // The bytes of names, handles, token and payload come beside it.
-#[derive(Drop)]
+#[derive(Clone, Copy)]
 pub struct Opening {
     // the chunk limit in bytes
     pub limit: usize,
@@ -43,7 +43,7 @@ pub struct Opening {
     pub last_persisted_size: Offset,
 }
 
-#[derive(Drop)]
+#[derive(Clone, Copy)]
 pub enum OpenAnswer {
     Refused(Refusal),
     Opened,

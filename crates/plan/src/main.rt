@@ -3,7 +3,6 @@
 
 const STDIN_FILENO: i32 = 0;
 
-
 fn main() {
     plan_run::run(STDIN_FILENO);
 }

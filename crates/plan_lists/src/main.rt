@@ -1,28 +1,26 @@
 // Runs lists as the program `plan` does: each argument names a file with one, and is written before its line.
 #![tactic(auto)]
 
+use std::fs::File;
+use std::os::fd::AsRawFd;
+
 const STDOUT_FILENO: i32 = 1;
 
-
-fn main() {
-    let n = os::arg_count();
-    let mut i = 1;
-    while i < n {
-        run(i);
-        i += 1;
+fn main(rt: HostRuntime) -> std::io::Result<()> {
+    for name in std::env::args(&rt)?.skip(1) {
+        run(&rt, name.as_str())?;
     }
+    Ok(())
 }
 
-fn run(i: usize) {
-    let mut name = io::buffer();
-    let n = os::arg(i, &mut name);
-    io::write_all(STDOUT_FILENO, &name[..n]);
+fn run(rt: &HostRuntime, name: &str) -> std::io::Result<()> {
+    io::write_all(STDOUT_FILENO, name.as_bytes());
     io::write_all(STDOUT_FILENO, b": ");
-    let fd = os::open_read(&name[..n]);
-    if fd < 0 {
-        os::fail(&name[..n]);
-        return;
+    match File::open(rt, name) {
+        Ok(file) => {
+            plan_run::run(file.as_raw_fd());
+            Ok(())
+        }
+        Err(e) => eprintln!(rt; "{name}: {e}"),
     }
-    plan_run::run(fd);
-    libc::close(fd);
 }

@@ -15,7 +15,7 @@ use redirect_reader::{Answer, Seen, read_redirect};
 pub const ABORTED: u32 = 10;
 
 // The detail of a break, read: where its token and handle lie in the value.
-#[derive(Drop)]
+#[derive(Clone, Copy)]
 pub enum Reading {
     Absent,
     Malformed,

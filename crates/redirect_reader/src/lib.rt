@@ -38,7 +38,7 @@ enum Handle {
 }
 
 // A redirect's token and handle, and its generation as 64 bits, if it is known.
-#[derive(Drop)]
+#[derive(Clone, Copy)]
 pub struct Seen {
     pub token: Part,
     pub handle: Part,

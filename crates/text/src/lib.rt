@@ -10,7 +10,7 @@ ghost use Rattle.text.specs.Line.{text_of, Adds};
 pub const MOST: usize = 96;
 
 // The text is the first `length` bytes.
-#[derive(Drop)]
+#[derive(Clone, Copy)]
 pub struct Line {
     pub bytes: [u8; MOST],
     pub length: usize,

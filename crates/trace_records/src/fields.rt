@@ -17,7 +17,7 @@ pub struct U16 {
     pub next: usize,
 }
 
-#[derive(Drop)]
+#[derive(Clone, Copy)]
 pub struct U32 {
     pub given: bool,
     pub value: u32,
@@ -32,7 +32,7 @@ pub struct I64 {
 }
 
 // The bytes from `from` up to `next`.
-#[derive(Drop)]
+#[derive(Clone, Copy)]
 pub struct Text {
     pub given: bool,
     pub from: usize,

@@ -41,7 +41,7 @@ const WB: u16 = b'W' as u16 + 256 * b'B' as u16;
 const EN: u16 = b'E' as u16 + 256 * b'N' as u16;
 
 // What a record asks for.
-#[derive(Drop)]
+#[derive(Clone, Copy)]
 pub enum Asks {
     // an opening, whose fields begin at this place
     Opening(usize),
@@ -66,7 +66,7 @@ pub fn ends(asks: Asks) -> bool {
 }
 
 // A record, where the bytes stand that its call brings, which are its last, and where the next record begins.
-#[derive(Drop)]
+#[derive(Clone, Copy)]
 pub struct Record {
     pub asks: Asks,
     pub bytes: Text,
