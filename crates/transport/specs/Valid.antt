@@ -1,5 +1,5 @@
 -- What an accepted opening gives and every call keeps.
-use Rattle.std.specs.Prelude.{◌≡◌, Bool, true, false, List, ℕ, ◌+◌, ◌*◌, ◌-◌, ◌<◌, ◌≤◌, ◌^◌, length, take, ℤ, pos}
+use Rattle.std.specs.Prelude.{◌≡◌, Bool, true, false, List, ℕ, ◌+◌, ◌*◌, ◌<◌, ◌≤◌, ◌^◌, length, take, ℤ, pos}
 use Rattle.std.specs.Int.Signed.{lt_z}
 use Rattle.rules.specs.Limits.{max_chunk, max_capacity, max_waiters, max_redirects}
 use Rattle.rules.specs.Message.{Bytes}
