@@ -42,7 +42,7 @@ use Rattle.bidi_write.proofs.Rows as Rows
 use Rattle.transport.proofs.First.{first_goes}
 use Rattle.transport.proofs.Refused as Refused
 use Rattle.transport.proofs.Views.{no_cursor, live_no_replay}
-use Rattle.transport.proofs.Numbers.{held_length, full_is, slot_is, waiters_are}
+use Rattle.transport.proofs.Numbers.{held_length, full_is, slot_is}
 use Rattle.transport.proofs.Ends.{guarded_waiting}
 use Rattle.cuts.proofs.Passing.{passes, cuttable, past_is}
 
