@@ -1,7 +1,7 @@
 -- Records, computed.
 use Rattle.std.specs.Prelude.{◌≡◌, refl, [], ◌∷◌, ◌++◌, pos, negsuc}
 use Rattle.text.specs.Ascii.{ascii}
-use Rattle.bench_records.specs.Record.{OP, AP, RS, whole, cut, unknown, bytes, reading}
+use Rattle.bench_records.specs.Record.{OP, RS, whole, cut, unknown, bytes, reading}
 
 -- document 01's opening, with a flush behind it: "OP 4, 9, 0"
 opening :

@@ -1,0 +1,4 @@
+use Rattle.measure.proofs.checksum_of.Goals as goal
+
+pub returns-then-present : goal.returns-then-present
+returns-then-present c = rw c.if-present.true
