@@ -22,7 +22,6 @@ use Rattle.transport.specs.declared.Answer.TheVariants as answer
 use Rattle.bidi_write.specs.declared.Check.{Check}
 use Rattle.bidi_write.specs.declared.Check.TheVariants as check
 use Rattle.transport.specs.declared.Outcome.{Outcome}
-use Rattle.transport.specs.declared.Phase.{Phase}
 use Rattle.bidi_write.specs.declared.Refusal.{Refusal}
 use Rattle.bidi_write.specs.declared.Refusal.TheVariants as refusal
 use Rattle.transport.specs.declared.Session.{Session}
