@@ -1,0 +1,26 @@
+use mathlib.Core.Path.{sym, ◌∙◌}
+use Rattle.bidi_write.specs.View.{break_of}
+use Rattle.reconnects.proofs.Judging.{fail_short, fail_refuses, fail_goes}
+use Rattle.reconnects.proofs.Detail.{malformed_as, long_as, short_as, rerouted_as}
+use Rattle.reconnects.proofs.failed_attempt.Goals as goal
+
+pub handle_redirect-rerouted-requires : goal.handle_redirect-rerouted-requires
+handle_redirect-rerouted-requires c =
+    short_as c.read_detail-d.ensures c.too_long.ensures
+    (fail_short c.phase_number-phase.result c.is_verdict-valid.result c.is_malformed.result c.too_long.result (sym c.failed_attempt-way.ensures ∙ c.in-Go.is))
+
+pub returns-in-Refuse : goal.returns-in-Refuse
+returns-in-Refuse c =
+    λ store table out.
+    fail_refuses c.args.s c.phase_number-phase.result c.args.verdict c.phase_number-phase.ensures c.is_verdict-valid.result c.is_verdict-valid.ensures
+    (break_of c.args.b c.args.detail.now) c.is_malformed.result (malformed_as c.read_detail-d.ensures c.is_malformed.ensures) c.too_long.result (long_as c.read_detail-d.ensures c.too_long.ensures)
+    store table out _ (sym c.failed_attempt-way.ensures ∙ c.in-Refuse.is)
+
+pub returns-in-Go : goal.returns-in-Go
+returns-in-Go c =
+    λ store table out.
+    fail_goes c.args.s c.phase_number-phase.result c.args.verdict c.phase_number-phase.ensures c.is_verdict-valid.result c.is_verdict-valid.ensures
+    (break_of c.args.b c.args.detail.now) c.is_malformed.result (malformed_as c.read_detail-d.ensures c.is_malformed.ensures) c.too_long.result (long_as c.read_detail-d.ensures c.too_long.ensures)
+    store table out c.handle_redirect-rerouted.result c.on_verdict.result (sym c.failed_attempt-way.ensures ∙ c.in-Go.is)
+    (c.handle_redirect-rerouted.ensures.result_value ∙ rerouted_as c.read_detail-d.ensures _) c.handle_redirect-rerouted.ensures.spec_fits
+    (rw (c.renew-t.ensures, c.set_connector-after.ensures.value, c.is_redirect.ensures c.args.detail.now) at c.on_verdict.ensures)
