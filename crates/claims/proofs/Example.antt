@@ -29,7 +29,6 @@ use Rattle.bidi_write.specs.View.{request_of}
 use Rattle.bidi_write.specs.declared.Checksum.TheVariants as checksum
 use Rattle.bidi_write.specs.declared.Data.TheVariants as payload
 use Rattle.bidi_write.specs.declared.Offset.{Offset}
-use Rattle.bidi_write.specs.declared.Request.{Request}
 use Rattle.bidi_write.specs.declared.WriteStatus.TheVariants as status
 use Rattle.state.specs.View.{spec_of}
 use Rattle.state.specs.declared.AppendObjectSpec.{AppendObjectSpec}

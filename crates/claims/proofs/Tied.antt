@@ -5,7 +5,13 @@ use mathlib.Core.Path.{◌≡◌, refl}
 use mathlib.Core.List.{List}
 use Prim.Native.Nat.{ℕ}
 use lib.ListN.{length}
-use Rattle.session.proofs.Lent.{Ura, SProp, Memory as Machine, Routine, Fun, Lfts, Args}
+use seplogic.Ra.Ura.{Ura}
+use base.Logic.{SProp}
+use prog.Memory.{Memory as Machine}
+use prog.Routine.{Routine}
+use contract.Monad.{Fun}
+use contract.Lifetimes.{Lfts}
+use denote.Triple.Entry.{Args}
 use types.Logic.{Logic}
 use contract.Notation.{connectives}
 use Rattle.rules.specs.Message.{Bytes}
@@ -181,7 +187,7 @@ module _ {M : Type 1} {𝓤 : Ura M} (𝓛 : Logic 𝓤) (mem : Machine → SPro
   failed_attempt_core κs a = refl
 
   next-request_core : (κs : Lfts 3) (a : Args core-next-request.signature κs)
-      → (core-next-request.clauses 𝓛 mem run κs a).ensures ≡ (λ _ r end. ⌜ Promises (R.next_request (length a.1.1.1.0.now)) (memory a.0 a.1.0.now a.1.1.0.now) a.1.1.1.0.now r end.1.0.now end.1.1.0.now end.1.1.1.0.now ⌝)
+      → (core-next-request.clauses 𝓛 mem run κs a).ensures ≡ (λ _ r end. ⌜ Promises (R.next_request (length a.1.1.1.0.now)) (memory a.0 a.1.0.now a.1.1.0.now) a.1.1.1.0.now r a.1.0.now a.1.1.0.now end.1.1.1.0.now ⌝)
   next-request_core κs a = refl
 
   send_failed_core : (κs : Lfts 0) (a : Args core-send-failed.signature κs)
