@@ -1,5 +1,6 @@
 -- What is claimed of a plan.
-use Rattle.rules.specs.Basics.{◌≡◌, Bool, true, false, cond, Option, none, some, List, [], ◌∷◌, ℕ, zero, suc, ◌+◌, ◌-◌, ◌^◌, ◌≤◌, ◌<◌, eqb, pos, All}
+use Rattle.std.specs.Prelude.{◌≡◌, ◌∷◌, ◌+◌, ◌-◌, ◌^◌, ◌≤◌, ◌<◌}
+use Rattle.rules.specs.Basics.{Bool, true, false, cond, Option, none, some, List, [], ℕ, zero, suc, eqb, pos, All}
 use Rattle.std.proofs.Math.Option.{map}
 use Rattle.protobuf_format.specs.Reading.{◌>>=◌}
 use Rattle.rules.specs.Limits.{max_waiters}

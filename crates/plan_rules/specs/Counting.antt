@@ -1,6 +1,6 @@
 -- The same numbers by arithmetic, one division an entry, as the code has them. That they are the plan is proved: nobody has to believe it.
-use Rattle.rules.specs.Basics.{List, [], ◌∷◌, ℕ, zero, suc, ◌+◌, ◌*◌}
-use Rattle.std.specs.Prelude.{◌/◌, ◌%◌}
+use Rattle.rules.specs.Basics.{List, [], ℕ, zero, suc}
+use Rattle.std.specs.Prelude.{◌/◌, ◌%◌, ◌∷◌, ◌+◌, ◌*◌}
 use Rattle.plan_rules.specs.Plan.{Plan}
 
 abbrev pub plan : (chunks stored held appends flushes : ℕ) → Plan

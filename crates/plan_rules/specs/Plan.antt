@@ -1,5 +1,6 @@
 -- "What a day will need": a list of append lengths, 0 for a flush, driven through a session.
-use Rattle.rules.specs.Basics.{cond, Option, none, some, List, [], ◌∷◌, ℕ, zero, suc, ◌+◌, ◌*◌, ◌-◌, max, length, leb, ltb, eqb, ◌||◌, pos}
+use Rattle.std.specs.Prelude.{◌∷◌, ◌+◌, ◌*◌, ◌-◌, ◌||◌}
+use Rattle.rules.specs.Basics.{cond, Option, none, some, List, [], ℕ, zero, suc, max, length, leb, ltb, eqb, pos}
 use Rattle.std.proofs.Math.Option.{map}
 use Rattle.protobuf_format.specs.Reading.{◌>>=◌}
 use Rattle.rules.specs.Limits.{max_chunk, default_capacity, store_size}

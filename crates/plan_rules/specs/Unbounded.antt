@@ -1,5 +1,6 @@
 -- "what the step rules would give without refusals 8 and 9": the rows and the results of `step`, less the rows of these two numbers.
-use Rattle.rules.specs.Basics.{◌≡◌, Bool, false, cond, ◌||◌, none, [], ◌∷◌, ℕ, eqb}
+use Rattle.std.specs.Prelude.{◌≡◌, ◌||◌, ◌∷◌}
+use Rattle.rules.specs.Basics.{Bool, false, cond, none, [], ℕ, eqb}
 use Rattle.rules.specs.Session.{flushing, finalizing, closing, nothing, Session, Call, append, flush, finalise, next_request, close, send_failed, response, handshake, break, judge, failed_attempt, took, ok, refused_with, Result, answers, set_phase, Rows, unless}
 use Rattle.rules.specs.Upload.{append_rows, appended, ask_rows, asked, close_rows}
 use Rattle.rules.specs.Step.{step}

@@ -1,5 +1,6 @@
 -- What the bench program opens with and is told.
-use Rattle.rules.specs.Basics.{Option, none, some, [], ◌∷◌, ◌++◌, ℕ, ℤ, pos}
+use Rattle.std.specs.Prelude.{◌∷◌, ◌++◌}
+use Rattle.rules.specs.Basics.{Option, none, some, [], ℕ, ℤ, pos}
 use Rattle.rules.specs.Message.{Bytes, persisted_size, Response}
 use Rattle.rules.specs.Spec.{write_form}
 use Rattle.rules.specs.Opening.{Opening, bucket_prefix}

@@ -1,5 +1,6 @@
 -- Claims over calls alone: from an accepted opening on, after every list of calls, refused ones included, whatever they bring.
-use Rattle.rules.specs.Basics.{◌≡◌, true, false, List, [], ◌∷◌, ◌+◌, ◌≤◌, ◌<◌, length, pos, le_z, All}
+use Rattle.std.specs.Prelude.{◌≡◌, ◌∷◌, ◌+◌, ◌≤◌, ◌<◌}
+use Rattle.rules.specs.Basics.{true, false, List, [], length, pos, le_z, All}
 use Rattle.crc32c.specs.Reg.{crc_of}
 use Rattle.rules.specs.Session.{ReplayChunk, Session, Call, Answer, Result, answers, is_nil, is_ended, chunks, waiters}
 use Rattle.rules.specs.Respond.{end_offset, pushed_end}

@@ -1,5 +1,6 @@
 -- Demand 3 of the customer's letter, stated: one claim over every list of turns from an accepted opening, with each sentence as a field.
-use Rattle.rules.specs.Basics.{◌≡◌, true, some, ◌++◌, ℕ, suc, ◌-◌, ◌≤◌, ◌<◌, length, take, drop, get_elem?, pos}
+use Rattle.std.specs.Prelude.{◌≡◌, ◌++◌, ◌-◌, ◌≤◌, ◌<◌}
+use Rattle.rules.specs.Basics.{true, some, ℕ, suc, length, take, drop, get_elem?, pos}
 use Rattle.rules.specs.Message.{Bytes}
 use Rattle.rules.specs.Session.{finalizing, Session, chunks, bytes_of}
 use Rattle.rules.specs.Notes.{Mark, Notes}

@@ -1,5 +1,6 @@
 -- The numbers that document 01 names.
-use Rattle.rules.specs.Basics.{ℕ, ◌+◌, ◌*◌, ◌-◌}
+use Rattle.std.specs.Prelude.{◌+◌, ◌*◌, ◌-◌}
+use Rattle.rules.specs.Basics.{ℕ}
 
 abbrev pub max_chunk : ℕ  -- "C is 0 or above 2,097,152"
 max_chunk = 2097152

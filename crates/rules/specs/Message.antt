@@ -1,5 +1,6 @@
 -- What goes over the line: requests, responses, and how a stream breaks (bidi_write.rs and the protobuf messages that it uses).
-use Rattle.rules.specs.Basics.{Bool, true, false, not, ◌&&◌, Option, none, some, ℕ, length, ltb, eqb, ℤ}
+use Rattle.std.specs.Prelude.{◌&&◌}
+use Rattle.rules.specs.Basics.{Bool, true, false, not, Option, none, some, ℕ, length, ltb, eqb, ℤ}
 use Rattle.protobuf_format.specs.Reading.{◌>>=◌}
 use Rattle.redirect_format.specs.Redirect.{read_redirect}
 pub use Rattle.protobuf_format.specs.Reading.{Bytes}

@@ -1,5 +1,6 @@
 -- More than demand 3, which alone lets a wrong sum pass (it only cuts) and does not ask whether the object was really finalised.
-use Rattle.rules.specs.Basics.{◌≡◌, ◌≢◌, true, some, ℕ, ◌<◌, length, take, drop, get_elem?, pos, All}
+use Rattle.std.specs.Prelude.{◌≡◌, ◌≢◌, ◌<◌}
+use Rattle.rules.specs.Basics.{true, some, ℕ, length, take, drop, get_elem?, pos, All}
 use Rattle.crc32c.specs.Reg.{crc_of}
 use Rattle.rules.specs.Message.{Bytes, ChecksummedData, Request}
 use Rattle.rules.specs.Session.{finalizing, regressed, beyond, ended}

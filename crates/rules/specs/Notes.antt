@@ -1,5 +1,6 @@
 -- What demand 3 speaks of, noted by an onlooker from the calls and the answers alone.
-use Rattle.rules.specs.Basics.{Bool, true, false, cond, Option, none, some, Option·getD, List, [], ◌∷◌, ◌++◌, ℕ, ◌+◌, ◌-◌, min, length, take, leb, ℤ}
+use Rattle.std.specs.Prelude.{◌∷◌, ◌++◌, ◌+◌, ◌-◌}
+use Rattle.rules.specs.Basics.{Bool, true, false, cond, Option, none, some, Option·getD, List, [], ℕ, min, length, take, leb, ℤ}
 use Rattle.rules.specs.Message.{Bytes, ChecksummedData, Request, size_of}
 use Rattle.rules.specs.Session.{PendingKind, flushing, finalizing, Call, append, flush, finalise, next_request, close, send_failed, response, handshake, break, judge, failed_attempt, Answer, refused, took, sends, waits, completes, attempt, ok, done, ends}
 use Rattle.rules.specs.Opening.{larger}

@@ -1,5 +1,6 @@
 -- "Opening": refusals 1 to 5 in order, else the session that the calls start from (`connect_attempt`, `start_worker`).
-use Rattle.rules.specs.Basics.{Bool, true, false, not, cond, ◌&&◌, ◌||◌, Option, none, some, Option·getD, List, [], ◌∷◌, ℕ, ◌+◌, ◌*◌, ◌-◌, max, length, leb, ltb, eqb, ℤ, pos, le_z}
+use Rattle.std.specs.Prelude.{◌&&◌, ◌||◌, ◌∷◌, ◌+◌, ◌*◌, ◌-◌}
+use Rattle.rules.specs.Basics.{Bool, true, false, not, cond, Option, none, some, Option·getD, List, [], ℕ, max, length, leb, ltb, eqb, ℤ, pos, le_z}
 use Rattle.rules.specs.Limits.{max_chunk, max_capacity, default_capacity, store_size}
 use Rattle.crc32c.specs.Reg.{crc_of}
 use Rattle.rules.specs.Message.{Bytes, Response, size_of, is_finalized, over, max_handle, max_token}

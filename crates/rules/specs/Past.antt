@@ -1,5 +1,6 @@
 -- A report past the end, of every call and session: document 02.
-use Rattle.rules.specs.Basics.{◌≡◌, Bool, true, false, not, ◌&&◌, Option, none, some, [], length, ℤ, lt_z}
+use Rattle.std.specs.Prelude.{◌≡◌, ◌&&◌}
+use Rattle.rules.specs.Basics.{Bool, true, false, not, Option, none, some, [], length, ℤ, lt_z}
 use Rattle.rules.specs.Spec.{AppendObjectSpec, noted}
 use Rattle.rules.specs.Session.{Cause, finished, regressed, beyond, already_finalized, permanent, exhausted, given_up, stream_error, ended, Session, Call, append, flush, finalise, next_request, close, send_failed, response, handshake, break, judge, failed_attempt, Answer, refused, took, sends, waits, completes, attempt, ok, done, ends, Result, waiters}
 use Rattle.rules.specs.Respond.{above_end}

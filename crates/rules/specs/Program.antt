@@ -1,6 +1,7 @@
 -- The claims: from an accepted opening, under the server rules at opening, after every list of turns. A turn is an event with what its call answered and
 -- left; the world is made from that, and of the call only its contract is known. The rules, the core and the host's calls have each their contract.
-use Rattle.rules.specs.Basics.{◌≡◌, none, some, List, [], ◌∷◌}
+use Rattle.std.specs.Prelude.{◌≡◌, ◌∷◌}
+use Rattle.rules.specs.Basics.{none, some, List, []}
 use Rattle.rules.specs.Session.{Session, Call, Answer, answers}
 use Rattle.rules.specs.Step.{step}
 use Rattle.rules.specs.Opening.{Opening, opened, opens}

@@ -1,5 +1,6 @@
 -- `push` of coalescing_buffer.rs, and an append "repeated until all is taken", which document 01 says "equals `push`".
-use Rattle.rules.specs.Basics.{cond, List, [], ◌∷◌, ◌++◌, ℕ, zero, suc, ◌-◌, min, length, take, drop, leb, ltb}
+use Rattle.std.specs.Prelude.{◌∷◌, ◌++◌, ◌-◌}
+use Rattle.rules.specs.Basics.{cond, List, [], ℕ, zero, suc, min, length, take, drop, leb, ltb}
 use Rattle.rules.specs.Message.{Bytes}
 
 -- ---- the source: chunks that are ready, and what is held

@@ -1,5 +1,6 @@
 -- "Breaks and replay", first half: break, verdict, failed attempt (`Connector::reconnect` without clock, retry_redirect.rs, redirect.rs).
-use Rattle.rules.specs.Basics.{Bool, true, false, not, cond, ◌&&◌, ◌||◌, Option, none, some, [], ◌∷◌, ℕ, suc, ◌-◌, ◌^◌, min, ltb, eqb}
+use Rattle.std.specs.Prelude.{◌&&◌, ◌||◌, ◌∷◌, ◌-◌, ◌^◌}
+use Rattle.rules.specs.Basics.{Bool, true, false, not, cond, Option, none, some, [], ℕ, suc, min, ltb, eqb}
 use Rattle.rules.specs.Limits.{max_redirects}
 use Rattle.rules.specs.Message.{Redirect, Break, redirect_in, is_malformed, is_redirect, is_end, over, max_handle, max_token}
 use Rattle.rules.specs.Spec.{redirected}

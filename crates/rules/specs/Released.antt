@@ -1,5 +1,6 @@
 -- How much was released: of every call and session, at the opening, added up, and which of its copies a host may drop for it.
-use Rattle.rules.specs.Basics.{◌≡◌, true, false, some, ◌++◌, ℕ, ◌+◌, ◌-◌, ◌≤◌, ◌<◌, length, take, drop, get_elem?}
+use Rattle.std.specs.Prelude.{◌≡◌, ◌++◌, ◌+◌, ◌-◌, ◌≤◌, ◌<◌}
+use Rattle.rules.specs.Basics.{true, false, some, ℕ, length, take, drop, get_elem?}
 use Rattle.rules.specs.Session.{Session, Call, stored, chunks, bytes_of}
 use Rattle.rules.specs.Step.{step}
 use Rattle.rules.specs.Opening.{Opening, opened, opens, payload_length, open_released}

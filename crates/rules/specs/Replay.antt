@@ -1,5 +1,6 @@
 -- "Breaks and replay", second half: next request and a send reported failed (`Worker::reconnect` after the handshake).
-use Rattle.rules.specs.Basics.{Bool, true, false, not, cond, ◌&&◌, Option, none, some, [], ◌∷◌, ℕ, suc, ◌-◌, length, get_elem?}
+use Rattle.std.specs.Prelude.{◌&&◌, ◌∷◌, ◌-◌}
+use Rattle.rules.specs.Basics.{Bool, true, false, not, cond, Option, none, some, [], ℕ, suc, length, get_elem?}
 use Rattle.rules.specs.Message.{is_given}
 use Rattle.rules.specs.Session.{ReplayChunk, PendingRequest, Phase, live, closing, connecting, verdict, replay, ended, Sent, nothing, a_request, bare_flush, Session, sends, ok, done, Result, answers, set_mark, set_worker, set_phase, is_replay, is_ended, chunks, waiters, watermark, short_out, choose, checks, unless}
 use Rattle.rules.specs.Upload.{chunk_request}

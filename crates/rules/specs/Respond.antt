@@ -1,5 +1,6 @@
 -- Responses and handshakes: `handle_response_success` of worker.rs, `ack` of replay_buffer.rs.
-use Rattle.rules.specs.Basics.{Bool, true, false, not, cond, ◌&&◌, ◌||◌, Option, none, some, List, [], ◌∷◌, ℕ, suc, ◌-◌, length, drop, ℤ, pos, nat_abs, ◌+ℤ◌, ◌-ℤ◌, le_z, lt_z}
+use Rattle.std.specs.Prelude.{◌&&◌, ◌||◌, ◌∷◌, ◌-◌, ◌+ℤ◌, ◌-ℤ◌}
+use Rattle.rules.specs.Basics.{Bool, true, false, not, cond, Option, none, some, List, [], ℕ, suc, length, drop, ℤ, pos, nat_abs, le_z, lt_z}
 use Rattle.crc32c.specs.Reg.{crc_of}
 use Rattle.rules.specs.Message.{Request, Response, size_of, is_finalized, over, max_handle}
 use Rattle.rules.specs.Spec.{noted}

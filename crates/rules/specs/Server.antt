@@ -1,5 +1,6 @@
 -- "Server rules for demand 3": what the server has stored, and the link, which is the present connection.
-use Rattle.rules.specs.Basics.{Bool, true, false, cond, ◌&&◌, Option, none, some, List, [], ◌∷◌, ◌++◌, ℕ, length, take, drop, eqb, ℤ, pos, negsuc}
+use Rattle.std.specs.Prelude.{◌&&◌, ◌∷◌, ◌++◌}
+use Rattle.rules.specs.Basics.{Bool, true, false, cond, Option, none, some, List, [], ℕ, length, take, drop, eqb, ℤ, pos, negsuc}
 use Rattle.crc32c.specs.Reg.{crc_of}
 use Rattle.rules.specs.Message.{Bytes, Generation, ChecksummedData, Request, persisted_size, resource, Response}
 

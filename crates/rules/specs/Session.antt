@@ -1,5 +1,6 @@
 -- The session's state, grouped as the crate's structs own each other, the calls, the answers, and the tests that refusals and rules ask.
-use Rattle.rules.specs.Basics.{Bool, true, false, not, cond, ◌&&◌, ◌||◌, Option, List, [], ◌∷◌, ◌++◌, ℕ, ◌*◌, ◌-◌, ◌^◌, length, leb, ltb, eqb, ℤ, pos, ◌+ℤ◌, lt_z}
+use Rattle.std.specs.Prelude.{◌&&◌, ◌||◌, ◌∷◌, ◌++◌, ◌*◌, ◌-◌, ◌^◌, ◌+ℤ◌}
+use Rattle.rules.specs.Basics.{Bool, true, false, not, cond, Option, List, [], ℕ, length, leb, ltb, eqb, ℤ, pos, lt_z}
 use Rattle.rules.specs.Limits.{max_waiters}
 use Rattle.rules.specs.Message.{Bytes, Request, Response, Break}
 use Rattle.rules.specs.Spec.{AppendObjectSpec}

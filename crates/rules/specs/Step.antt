@@ -1,5 +1,6 @@
 -- The step rules of document 01 as one total function.
-use Rattle.rules.specs.Basics.{none, [], ◌∷◌}
+use Rattle.std.specs.Prelude.{◌∷◌}
+use Rattle.rules.specs.Basics.{none, []}
 use Rattle.rules.specs.Session.{flushing, finalizing, Session, Call, append, flush, finalise, next_request, close, send_failed, response, handshake, break, judge, failed_attempt, took, Result, answers}
 use Rattle.rules.specs.Upload.{appends, asks, closes}
 use Rattle.rules.specs.Respond.{responds, shakes}

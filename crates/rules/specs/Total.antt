@@ -1,5 +1,6 @@
 -- The byte total of document 01, as document 02 extends it, and the bound on stored bytes.
-use Rattle.rules.specs.Basics.{◌≡◌, Option, none, some, ℕ, ◌+◌, ◌-◌, ◌≤◌, min, length, ℤ, pos, to_ℕ}
+use Rattle.std.specs.Prelude.{◌≡◌, ◌+◌, ◌-◌, ◌≤◌}
+use Rattle.rules.specs.Basics.{Option, none, some, ℕ, min, length, ℤ, pos, to_ℕ}
 use Rattle.rules.specs.Message.{Bytes}
 use Rattle.rules.specs.Session.{stored}
 use Rattle.rules.specs.World.{World}

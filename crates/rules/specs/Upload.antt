@@ -1,5 +1,6 @@
 -- "Calls while live": append, flush, finalise, close (transport.rs, coalescing_buffer.rs, `process_intent` of worker.rs).
-use Rattle.rules.specs.Basics.{Bool, true, false, not, cond, ◌&&◌, ◌||◌, Option, none, some, [], ◌∷◌, ◌++◌, ℕ, suc, ◌-◌, min, length, take, leb, ℤ, pos, ◌+ℤ◌}
+use Rattle.std.specs.Prelude.{◌&&◌, ◌||◌, ◌∷◌, ◌++◌, ◌-◌, ◌+ℤ◌}
+use Rattle.rules.specs.Basics.{Bool, true, false, not, cond, Option, none, some, [], ℕ, suc, min, length, take, leb, ℤ, pos}
 use Rattle.crc32c.specs.Reg.{crc_of, joined}
 use Rattle.rules.specs.Message.{Bytes, ChecksummedData, Request}
 use Rattle.rules.specs.Session.{ReplayChunk, PendingKind, flushing, finalizing, PendingRequest, Worker, closing, nothing, a_request, Session, took, sends, waits, ok, Result, answers, working, set_mark, set_pending, going, set_worker, set_phase, is_nil, is_live, is_ended, waiters, full, watermark, closed, no_slot, no_waiter, past_end, short_out, choose, Rows, checks, unless}

@@ -1,5 +1,6 @@
 -- The session, the server and the onlooker's notes together, and the events that move them: demand 3's list.
-use Rattle.rules.specs.Basics.{◌≡◌, Bool, true, false, not, cond, ◌&&◌, Option, none, some, Option·getD, List, [], ◌∷◌, ◌++◌, ℕ, length, get_elem?, pos}
+use Rattle.std.specs.Prelude.{◌≡◌, ◌&&◌, ◌∷◌, ◌++◌}
+use Rattle.rules.specs.Basics.{Bool, true, false, not, cond, Option, none, some, Option·getD, List, [], ℕ, length, get_elem?, pos}
 use Rattle.crc32c.specs.Reg.{crc_of}
 use Rattle.rules.specs.Message.{Bytes, Request, Response}
 use Rattle.rules.specs.Session.{Session, Call, response, handshake, Answer, Result}
