@@ -8,20 +8,22 @@ const STDOUT_FILENO: i32 = 1;
 
 fn main(rt: HostRuntime) -> std::io::Result<()> {
     for name in std::env::args(&rt)?.skip(1) {
-        play(&rt, name.as_str())?;
+        play(&rt, name.as_str());
     }
     Ok(())
 }
 
-fn play(rt: &HostRuntime, name: &str) -> std::io::Result<()> {
+fn play(rt: &HostRuntime, name: &str) {
     io::write_all(STDOUT_FILENO, name.as_bytes());
     io::write_all(STDOUT_FILENO, b"\n");
     match File::open(rt, name) {
         Ok(file) => {
             bench_run::run(file.as_raw_fd());
             io::write_all(STDOUT_FILENO, b"\n");
-            Ok(())
         }
-        Err(e) => eprintln!(rt; "{name}: {e}"),
+        // a file that does not open is named, and the next one follows
+        Err(e) => {
+            let _ = eprintln!(rt; "{name}: {e}");
+        }
     }
 }

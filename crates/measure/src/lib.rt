@@ -14,7 +14,7 @@ use wire::WriteAnswer;
 
 // What a plan answers: the refusal's number, or 0 and what is needed.
 #[repr(C)]
-#[derive(Drop)]
+#[derive(Clone, Copy)]
 pub struct PlanNumbers {
     pub refused: u64,
     pub chunks: u64,

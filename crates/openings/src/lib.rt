@@ -50,7 +50,7 @@ pub enum OpenAnswer {
 }
 
 // After a refusal the session is one that ended: later calls refuse it too.
-#[derive(Drop)]
+#[derive(Clone, Copy)]
 pub struct Opened {
     pub session: Session,
     pub answer: OpenAnswer,

@@ -21,7 +21,7 @@ use transport::{Phase, Sent, Session};
 use worker::{PendingRequests, Worker};
 
 // The session of an accepted opening, and how many bytes of the payload were released.
-#[derive(Drop)]
+#[derive(Clone, Copy)]
 pub struct Started {
     pub session: Session,
     pub released: usize,

@@ -8,19 +8,21 @@ const STDOUT_FILENO: i32 = 1;
 
 fn main(rt: HostRuntime) -> std::io::Result<()> {
     for name in std::env::args(&rt)?.skip(1) {
-        run(&rt, name.as_str())?;
+        run(&rt, name.as_str());
     }
     Ok(())
 }
 
-fn run(rt: &HostRuntime, name: &str) -> std::io::Result<()> {
+fn run(rt: &HostRuntime, name: &str) {
     io::write_all(STDOUT_FILENO, name.as_bytes());
     io::write_all(STDOUT_FILENO, b": ");
     match File::open(rt, name) {
         Ok(file) => {
             plan_run::run(file.as_raw_fd());
-            Ok(())
         }
-        Err(e) => eprintln!(rt; "{name}: {e}"),
+        // a file that does not open is named, and the next one follows
+        Err(e) => {
+            let _ = eprintln!(rt; "{name}: {e}");
+        }
     }
 }

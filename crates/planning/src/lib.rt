@@ -17,7 +17,7 @@ pub const MAX_ENTRIES: usize = 65536;
 //
 // All of it fits, far below 2^64: 65,536 entries bring fewer than 2^48 bytes; a chunk has a byte at least; each append call cuts a chunk or is the last of its
 // entry; an entry makes at most two flush calls.
-#[derive(Drop)]
+#[derive(Clone, Copy)]
 pub struct Needs {
     // cut, each of which fills a slot
     pub chunks: u64,
@@ -30,7 +30,7 @@ pub struct Needs {
 }
 
 // Refusal 1 or 16, or what is needed.
-#[derive(Drop)]
+#[derive(Clone, Copy)]
 pub enum PlanAnswer {
     Refused(Refusal),
     Planned(Needs),

@@ -10,7 +10,7 @@ use bidi_write::Offset;
 use state::AppendObjectSpec;
 use transport::{Answer, MaybeRequest, Phase, Session};
 
-#[derive(Drop)]
+#[derive(Clone, Copy)]
 pub struct View {
     pub phase: Phase,
     // P

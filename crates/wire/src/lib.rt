@@ -19,7 +19,7 @@ use protobuf::{put_bool, put_bytes, put_fixed32, put_head, put_int, varint_len};
 use std::num::wrapping_sub_u64;
 
 // Refusal 14, or how many bytes were written.
-#[derive(Drop)]
+#[derive(Clone, Copy)]
 pub enum WriteAnswer {
     Refused(Refusal),
     Wrote(usize),
