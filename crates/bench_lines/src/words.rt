@@ -16,7 +16,7 @@ use bidi_write::{Data, Refusal, Request};
 use text::Line;
 use transport::{Answer, MaybeRequest};
 
-#[derive(Drop)]
+#[derive(Clone, Copy)]
 pub struct Letters(pub u8, pub u8);
 
 // The mark, and a space.

@@ -46,14 +46,14 @@ pub enum CallRecord {
     Next,
 }
 
-#[derive(Drop)]
+#[derive(Clone, Copy)]
 pub enum Record {
     // C, capacity, P.
     Open(usize, usize, Offset),
     Call(CallRecord),
 }
 
-#[derive(Drop)]
+#[derive(Clone, Copy)]
 pub enum Reading {
     // A record, and how many bytes it takes: an append's own are the last of them, from byte 4 on.
     Whole(Record, usize),

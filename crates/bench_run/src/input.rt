@@ -6,7 +6,7 @@ ghost use Rattle.bench_run.specs.Feeds.{Feeds};
 use crate::turns::Turn;
 
 // The bytes at hand, from..to; or no more come.
-#[derive(Drop)]
+#[derive(Clone, Copy)]
 pub enum Fed {
     Bytes(usize, usize),
     Nothing,

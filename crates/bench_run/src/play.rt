@@ -14,7 +14,7 @@ use text::MOST;
 use transport::Session;
 
 // The session, what is to be done next, with the bytes at hand from this one on, and how much of the text is printed.
-#[derive(Drop)]
+#[derive(Clone, Copy)]
 pub struct Played {
     pub session: Session,
     pub turn: Turn,
@@ -23,7 +23,7 @@ pub struct Played {
 }
 
 // An opening with C, capacity and P, of so many bytes.
-#[derive(Drop)]
+#[derive(Clone, Copy)]
 pub enum First {
     Open(usize, usize, Offset, usize),
     Nothing,

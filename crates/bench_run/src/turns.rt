@@ -21,7 +21,7 @@ pub enum Turn {
 }
 
 // A turn, with the bytes at hand from this one on.
-#[derive(Drop)]
+#[derive(Clone, Copy)]
 pub struct Next {
     pub at: usize,
     pub turn: Turn,

@@ -92,7 +92,7 @@ fn call_of(c: CallRecord) -> Call
 }
 
 // What is still to be called: the same, and of an append the bytes from this one on; or nothing.
-#[derive(Drop)]
+#[derive(Clone, Copy)]
 pub enum Rest {
     From(usize),
     Nothing,

@@ -15,7 +15,7 @@ use transport::{Sent, Session};
 use worker::Worker;
 
 // The session after a call that sends, and the request.
-#[derive(Drop)]
+#[derive(Clone, Copy)]
 pub struct Sending {
     pub session: Session,
     pub request: Request,

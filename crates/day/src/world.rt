@@ -30,7 +30,7 @@ pub struct World {
 }
 
 // A host's next call, and the world in which it makes it.
-#[derive(Drop)]
+#[derive(Clone, Copy)]
 pub struct Move {
     pub world: World,
     pub call: Call,

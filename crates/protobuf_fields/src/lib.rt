@@ -30,7 +30,7 @@ const GROUPS: usize = 10;
 const HIGH: u64 = 1 << 57;
 
 // A number and the place behind its varint.
-#[derive(Drop)]
+#[derive(Clone, Copy)]
 pub enum Got {
     Value(u64, usize),
     Malformed,

@@ -20,7 +20,7 @@ pub enum Step {
 }
 
 // A step, and the place behind it.
-#[derive(Drop)]
+#[derive(Clone, Copy)]
 pub struct Stepped {
     pub step: Step,
     pub at: usize,

@@ -46,7 +46,7 @@ pub struct Seen {
     pub generation: u64,
 }
 
-#[derive(Drop)]
+#[derive(Clone, Copy)]
 pub enum Answer {
     Malformed,
     Read(Seen),

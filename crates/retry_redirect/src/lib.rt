@@ -17,7 +17,7 @@ const EXHAUSTED: u8 = 3;
 
 const GIVEN_UP: u8 = 4;
 
-#[derive(Drop)]
+#[derive(Clone, Copy)]
 pub enum RetryResult {
     Continue,
     Ended(Cause),

@@ -14,21 +14,21 @@ use transport::Session;
 use transport::parts::renew;
 
 // What a message settled: waiters completed, and bytes released.
-#[derive(Drop)]
+#[derive(Clone, Copy)]
 pub struct Settled {
     pub completed: usize,
     pub released: usize,
 }
 
 // How a session goes on from a response: to its last step, or to its end.
-#[derive(Drop)]
+#[derive(Clone, Copy)]
 pub enum Way {
     On(Settled),
     Ends(Cause, Settled),
 }
 
 // A session that took over what a response states.
-#[derive(Drop)]
+#[derive(Clone, Copy)]
 pub struct Taken {
     pub session: Session,
     pub way: Way,

@@ -11,7 +11,7 @@ use trace_text::{part, text};
 use transport::{Answer, MaybeRequest, Session};
 
 // Where a run stands: the bytes of the input buffer not used yet, whose start is CUT once the run is over, and how much of the output waits.
-#[derive(Drop)]
+#[derive(Clone, Copy)]
 pub struct Stand {
     pub at: usize,
     pub end: usize,

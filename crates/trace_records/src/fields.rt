@@ -5,13 +5,13 @@ ghost use Rattle.std.specs.Prelude.{◌≡◌, ◌-◌, length};
 // No input is this long.
 pub const CUT: usize = usize::MAX;
 
-#[derive(Drop)]
+#[derive(Clone, Copy)]
 pub struct U8 {
     pub value: u8,
     pub next: usize,
 }
 
-#[derive(Drop)]
+#[derive(Clone, Copy)]
 pub struct U16 {
     pub value: u16,
     pub next: usize,
@@ -24,7 +24,7 @@ pub struct U32 {
     pub next: usize,
 }
 
-#[derive(Drop)]
+#[derive(Clone, Copy)]
 pub struct I64 {
     pub given: bool,
     pub value: i64,

@@ -6,7 +6,7 @@ use trace_text::part;
 const STDIN_FILENO: i32 = 0;
 
 // A record, and where the buffer's bytes end.
-#[derive(Drop)]
+#[derive(Clone, Copy)]
 pub struct Fetched {
     pub record: Record,
     pub end: usize,

@@ -3,14 +3,14 @@ use crate::fields::{Text, choice, i64_at, maybe_text_at, no_text, u32_at};
 use bidi_write::{Break, Detail, Generation, Offset, Resource, Response, Status, WriteStatus};
 
 // Its handle is the last field.
-#[derive(Drop)]
+#[derive(Clone, Copy)]
 pub struct Message {
     pub response: Response,
     pub handle: Text,
 }
 
 // Its detail's value is the last field.
-#[derive(Drop)]
+#[derive(Clone, Copy)]
 pub struct Broken {
     pub how: Break,
     pub detail: Text,

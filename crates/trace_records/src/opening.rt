@@ -8,7 +8,7 @@ use bidi_write::{Checksum, Generation, Metageneration, Offset};
 use openings::{Capacity, Opening};
 use state::Condition;
 
-#[derive(Drop)]
+#[derive(Clone, Copy)]
 pub struct Lent {
     pub store: usize,
     pub slots: usize,
@@ -17,7 +17,7 @@ pub struct Lent {
 }
 
 // An opening, with where its names, handles, token and payload stand.
-#[derive(Drop)]
+#[derive(Clone, Copy)]
 pub struct Opens {
     pub opening: Opening,
     pub bucket: Text,
