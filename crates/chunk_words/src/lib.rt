@@ -8,17 +8,17 @@ ghost use Rattle.chunk_words.specs.Word.{packed, len_of, sum_of};
 pub fn pack(len: u32, sum: u32) -> u64
     ensures { result ≡ packed len sum }
 {
-    (sum as u64) * 0x1_0000_0000 + (len as u64)
+    u64::from(sum) << 32 | u64::from(len)
 }
 
 pub fn len_of(w: u64) -> u32
     ensures { result ≡ len_of w }
 {
-    (w % 0x1_0000_0000) as u32
+    (w & 0xFFFF_FFFF) as u32
 }
 
 pub fn sum_of(w: u64) -> u32
     ensures { result ≡ sum_of w }
 {
-    (w / 0x1_0000_0000) as u32
+    (w >> 32) as u32
 }

@@ -1,17 +1,14 @@
 -- One call on held bytes and data: what the code counts and copies is what the rules of an append say.
 -- Assumes nothing.
-use mathlib.Core.Path.{◌≡◌, refl, sym, ap, ◌∙◌}
-use mathlib.Core.Logic.{⊎_elim}
-use Prim.Native.Nat.{ℕ, ◌+◌, ◌-◌, ◌<◌, ◌≤◌, min}
+use mathlib.Core.Path.{◌≡◌, refl, sym, ap}
+use Prim.Native.Nat.{ℕ, ◌+◌, ◌-◌, ◌≤◌, min}
 use native.Mathlib.Omega.{arith}
-use borrow.Author.Tests.{le-leb, lt-leb}
 use lib.Dec.{leb}
 use lib.ListN.{length, length-append, length-take}
 use Rattle.rules.specs.Message.{Bytes}
 use Rattle.rules.specs.Session.{Session}
 use Rattle.rules.specs.Upload as R
 use Rattle.ring.specs.Ring.{part, Within, Written}
-use Rattle.ring.proofs.Rot.{lt_or_ge}
 use Rattle.ring.proofs.Laws.{length_part, part-before, part-joined}
 use Rattle.coalescing_buffer.specs.Held.{takes, holds, cuts, Extends}
 
@@ -23,14 +20,6 @@ extends size head stored held d n before after within enough written =
       stored_is = part-before size head (stored + held) d n before after within enough written 0 stored (omega arith);
       beyond = written.beyond;
     }
-
--- a limit less what is held, or what is held and more
-pub leb_shift : (held limit n : ℕ) → held ≤ limit → leb (limit - held) n ≡ leb limit (held + n)
-leb_shift held limit n h =
-    ⊎_elim
-    (λ (l : held + n < limit). lt-leb (limit - held) n (omega arith) ∙ sym (lt-leb limit (held + n) l))
-    (λ (g : limit ≤ held + n). le-leb (limit - held) n (omega arith) ∙ sym (le-leb limit (held + n) g))
-    (lt_or_ge (held + n) limit)
 
 -- ---- the rules of an append, in these words
 

@@ -11,21 +11,14 @@ ghost use Rattle.coalescing_buffer.specs.Held.{Extends};
 pub fn room(held: usize, limit: usize, n: usize) -> usize
     ensures { result ≡ min n (limit - held) }
 {
-    if limit < held {
-        return 0;
-    }
-    let needed = limit - held;
-    if n < needed { n } else { needed }
+    n.min(limit.saturating_sub(held))
 }
 
 // Whether n bytes more reach the limit of a chunk.
 pub fn fills(held: usize, limit: usize, n: usize) -> bool
     ensures { result ≡ leb limit (held + n) }
 {
-    if limit < held {
-        return true;
-    }
-    limit - held <= n
+    limit.saturating_sub(held) <= n
 }
 
 // The first n bytes of data are held behind those held before.

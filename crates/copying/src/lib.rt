@@ -1,7 +1,7 @@
 // Copies a slice into a lent buffer, from `at` on, as fast as the C library does. Each function returns the place behind what it wrote.
 #![tactic(auto)]
 
-ghost use Rattle.std.specs.Prelude.{◌+◌, ◌≤◌, min, ◌≡◌, length};
+ghost use Rattle.std.specs.Prelude.{◌+◌, ◌≤◌, ◌≡◌, length};
 ghost use Rattle.copying.specs.Written.{Written};
 
 const BLOCK: usize = 2048;
@@ -29,24 +29,14 @@ fn put_block(buffer: &mut [u8], at: usize, src: &[u8]) -> usize
     put_run(buffer, at, &block[..n])
 }
 
-// How much of n bytes a block takes.
-fn block_of(n: usize) -> usize
-    ensures { result ≡ min n 2048 }
-{
-    if n < BLOCK { n } else { BLOCK }
-}
-
 // All of src, block by block.
 fn put_blocks(buffer: &mut [u8], at: usize, src: &[u8]) -> usize
     requires { at + length src.now ≤ length buffer.old }
     ensures { Written src.now buffer.old buffer.new at result }
 {
     let mut i = at;
-    let mut from = 0;
-    while from < src.len() {
-        let n = block_of(src.len() - from);
-        i = put_block(buffer, i, &src[from..from + n]);
-        from += n;
+    for block in src.chunks(BLOCK) {
+        i = put_block(buffer, i, block);
     }
     i
 }
@@ -59,7 +49,7 @@ pub fn put_all(buffer: &mut [u8], at: usize, src: &[u8]) -> usize
     if src.len() < LONG {
         return put_blocks(buffer, at, src);
     }
-    let k = 16 - at % 16;
-    let i = put_run(buffer, at, &src[..k]);
-    put_run(buffer, i, &src[k..])
+    let (first, rest) = src.split_at(16 - at % 16);
+    let i = put_run(buffer, at, first);
+    put_run(buffer, i, rest)
 }

@@ -6,6 +6,7 @@ pub mod Linear
 pub mod Join
 pub mod Bound
 pub mod Operator
+pub mod Made
 pub mod Filled
 pub mod Slicing
 pub mod Sum

@@ -1,5 +1,7 @@
 -- Eight bytes a turn: the rule of the tables from two tests computed over them, and the register as a sum with a part for each half-byte.
-use Rattle.std.proofs.Common.{◌≡◌, ℕ, zero, suc, ◌+◌, ◌-◌, ◌*◌, ◌/◌, ◌%◌, ◌^◌, ◌<◌, Bool, true, false, ◌&&◌, T, eqb, List, [], ◌∷◌, length, get_or, drop, sym, refl, ap, ◌∙◌, ap₂, le_of_suc-le-suc, not-suc-le-zero, add-zero, add-suc, mod-lt, mul_assoc, suc-add, pow-suc, div-add-mod', zero-add, mul-one, arith, eqb→eq, length-drop, get_or-drop, drop-cons, pow_pos, pow-add}
+use Rattle.std.proofs.Common.{◌≡◌, ℕ, zero, suc, ◌+◌, ◌-◌, ◌*◌, ◌/◌, ◌%◌, ◌^◌, ◌<◌, Bool, true, false, ◌&&◌, T, eqb, List, [], ◌∷◌, length, get_or, drop, sym, refl, ap, ◌∙◌, ap₂, le_of_suc-le-suc, not-suc-le-zero, add-zero, add-suc, mod-lt, mul_assoc, suc-add, pow-suc, div-add-mod', zero-add, mul-one, arith, eqb→eq, length-drop, get_or-drop, drop-cons, pow_pos, pow-add, take, take-add}
+use Rattle.std.specs.List.{fold}
+use Rattle.std.specs.Simd.{first_chunks}
 use native.Mathlib.Nat.{div-div-eq-div-mul}
 use lib.Ieee.Fits.{and_l, and_r}
 use lib.Bits.{bit_xor, xor_comm, xor_zero_r, xor_shifted, xor_shr}
@@ -7,7 +9,7 @@ use Rattle.crc32c.specs.Reg.{step, steps, feed, reg, zeros}
 use Rattle.crc32c.specs.Table.{HalfByteTable}
 use Rattle.crc32c.proofs.Filled.{Filled}
 use Rattle.crc32c.proofs.Linear.{steps-xor, step_double}
-use Rattle.crc32c.proofs.Join.{reg-xor}
+use Rattle.crc32c.proofs.Join.{reg-xor, reg-append}
 
 -- ---- a register is its n low digits and the rest, which n steps shift down
 
@@ -118,3 +120,13 @@ reg_at r bs i h hb =
     ap (reg x) (drop-cons bs i 0 h)
     ∙ reg-first x b (drop (suc i) bs) hb
     ∙ ap₂ (λ (q n : ℕ). bit_xor (reg q (drop (suc i) bs)) (zeros n (bit_xor x b % 256))) d l
+
+-- ---- bytes by eights are the bytes in order
+
+pub by_eights : (n r : ℕ) (bs : List ℕ) → fold reg r (first_chunks 8 n bs) ≡ reg r (take (n * 8) bs)
+unfolding reg
+by_eights zero r bs = refl
+by_eights (suc n) r bs =
+    let e : suc n * 8 ≡ 8 + n * 8 = omega arith in
+    by_eights n (reg r (take 8 bs)) (drop 8 bs)
+    ∙ sym (ap (λ (k : ℕ). reg r (take k bs)) e ∙ ap (reg r) (take-add 8 (n * 8) bs) ∙ reg-append r (take 8 bs) (take (n * 8) (drop 8 bs)))

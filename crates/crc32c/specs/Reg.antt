@@ -1,6 +1,7 @@
 -- The shift register on numbers: a quick way to the sum that Poly.antt defines, proved equal to it (proofs/Division.antt, Unique.antt).
 -- Assumes nothing.
-use Rattle.std.specs.Prelude.{ℕ, zero, suc, ◌*◌, ◌/◌, ◌%◌, List, [], ◌∷◌, bit_xor}
+use Rattle.std.specs.Prelude.{ℕ, zero, suc, ◌*◌, ◌/◌, ◌%◌, List, bit_xor}
+use Rattle.std.specs.List.{fold}
 
 -- the generator's low 32 coefficients, that of x^31 lowest
 abbrev pub poly : ℕ
@@ -21,8 +22,7 @@ feed r b = steps 8 (bit_xor r b)
 
 -- the bytes of a list, in order
 unfoldable pub reg : ℕ → List ℕ → ℕ
-reg r [] = r
-reg r (b ∷ bs) = reg (feed r b) bs
+reg r bs = fold feed r bs
 
 abbrev pub ones32 : ℕ
 ones32 = 0xFFFF_FFFF

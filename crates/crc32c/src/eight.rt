@@ -1,38 +1,33 @@
 // Eight bytes a turn, by half-bytes. The register is linear: what eight bytes make of it is the sum of what each half-byte, with
 // the half-byte of the register that it meets, becomes by the end. A table for each of the sixteen places has that. A constant
 // array is written to the stack at each use: these tables take 1 KiB there, tables for whole bytes would take 8.
-ghost use Rattle.std.specs.Prelude.{◌≡◌, ◌+◌, ◌*◌, ◌/◌, ◌<◌, length, take};
+ghost use Rattle.std.specs.Prelude.{◌≡◌, ◌+◌, ◌<◌};
+ghost use Rattle.std.specs.List.{fold};
 ghost use Rattle.crc32c.specs.Reg.{reg, zeros};
 ghost use Rattle.crc32c.specs.Table.{HalfByteTable};
 
-// The register over the bytes of a slice, as far as they go by eights.
-pub fn whole_eights(start: u32, bytes: &[u8]) -> u32
-    ensures { result ≡ reg start (take (length bytes.now / 8 * 8) bytes.now) }
+// The register over bytes that come by eights.
+pub fn whole_eights(start: u32, eights: &[[u8; 8]]) -> u32
+    ensures { result ≡ fold reg start eights.now }
 {
     let t = tables();
     let mut crc = start;
-    let mut i: usize = 0;
-    while 8 <= bytes.len() - i {
-        let end = i + 8;
-        crc = eight_step(&t, crc, &bytes[i..end]);
-        i = end;
+    for bytes in eights {
+        crc = eight_step(&t, crc, bytes);
     }
     crc
 }
 
 // Eight bytes. Only the first four meet a byte of the register. The last four go first: they do not wait for the turn before.
-fn eight_step(t: &[u32; 256], crc: u32, bytes: &[u8]) -> u32
-    requires half_byte_table { HalfByteTable t.now }
-    requires bytes_len { length bytes.now ≡ 8 }
+fn eight_step(t: &[u32; 256], crc: u32, bytes: &[u8; 8]) -> u32
+    requires { HalfByteTable t.now }
     ensures { result ≡ reg crc bytes.now }
 {
-    let wide = crc as u64;
-    let mut sum: u32 = 0;
-    let mut i: usize = 8;
-    while 0 < i {
-        i -= 1;
-        let x = (wide >> (8 * i)) ^ (bytes[i] as u64);
-        sum = sum ^ zero_bytes(t, 7 - i, (x % 256) as u8);
+    let wide = u64::from(crc);
+    let mut sum = 0;
+    for i in (0..8).rev() {
+        let x = (wide >> (8 * i)) ^ u64::from(bytes[i]);
+        sum ^= zero_bytes(t, 7 - i, (x % 256) as u8);
     }
     sum
 }
@@ -43,7 +38,7 @@ fn zero_bytes(t: &[u32; 256], k: usize, byte: u8) -> u32
     requires k_bound { k < 8 }
     ensures { result ≡ zeros (k + 1) byte }
 {
-    let x = byte as usize;
+    let x = usize::from(byte);
     let row = 2 * k;
     t[(row + 1) * 16 + x % 16] ^ t[row * 16 + x / 16]
 }

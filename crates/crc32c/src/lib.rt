@@ -4,10 +4,12 @@
 
 mod eight;
 
-ghost use Rattle.std.specs.Prelude.{◌≡◌, ◌%◌, map, length};
+ghost use Rattle.std.specs.Prelude.{◌≡◌, ◌%◌, map};
 ghost use Rattle.crc32c.specs.Poly.{Crc};
 ghost use Rattle.crc32c.specs.Reg.{step, feed, reg, crc_of, updated, joined};
 ghost use Rattle.crc32c.specs.Matrix.{applied, iterated, zero_byte};
+
+use std::array;
 
 // The generator below its leading coefficient, that of x^31 in the lowest bit.
 const POLY: u32 = 0x82F6_3B78;
@@ -16,6 +18,7 @@ const POLY: u32 = 0x82F6_3B78;
 const ONES: u32 = 0xFFFF_FFFF;
 
 // The sum of the bytes.
+#[tactic(auto, unfolding(crate::specs::Reg::crc_of))]
 pub fn crc32c(bytes: &[u8]) -> u32
     ensures divided { Crc bytes.now result }
     ensures register { result ≡ crc_of bytes.now }
@@ -24,6 +27,7 @@ pub fn crc32c(bytes: &[u8]) -> u32
 }
 
 // The sum of some bytes, taken further over the bytes that follow them.
+#[tactic(auto, unfolding(crate::specs::Reg::updated))]
 pub fn update(sum: u32, bytes: &[u8]) -> u32
     ensures { result ≡ updated sum bytes.now }
 {
@@ -31,6 +35,7 @@ pub fn update(sum: u32, bytes: &[u8]) -> u32
 }
 
 // The sum of two runs of bytes, one after the other, from their sums and the second's length.
+#[tactic(auto, using(crate::proofs::Operator::zeros_power), unfolding(crate::specs::Reg::joined))]
 pub fn combine(crc1: u32, crc2: u32, len2: u64) -> u32
     ensures { result ≡ joined crc1 crc2 len2 }
 {
@@ -43,33 +48,25 @@ pub fn combine(crc1: u32, crc2: u32, len2: u64) -> u32
 fn run(start: u32, bytes: &[u8]) -> u32
     ensures { result ≡ reg start bytes.now }
 {
-    let crc = eight::whole_eights(start, bytes);
-    let k = bytes.len() / 8 * 8;
-    bytewise(crc, &bytes[k..])
+    let (eights, rest) = bytes.as_chunks::<8>();
+    bytewise(eight::whole_eights(start, eights), rest)
 }
 
 // The same, a byte a turn.
+#[tactic(auto, unfolding(crate::specs::Reg::reg))]
 fn bytewise(start: u32, bytes: &[u8]) -> u32
     ensures { result ≡ reg start bytes.now }
 {
-    let mut crc = start;
-    let mut i = 0;
-    while i < bytes.len() {
-        crc = byte_step(crc, bytes[i]);
-        i += 1;
-    }
-    crc
+    bytes.iter().fold(start, |crc, b| byte_step(crc, *b))
 }
 
 // One byte: eight steps.
 fn byte_step(crc: u32, byte: u8) -> u32
     ensures { result ≡ feed crc byte }
 {
-    let mut r = crc ^ (byte as u32);
-    let mut i: u32 = 0;
-    while i < 8 {
+    let mut r = crc ^ u32::from(byte);
+    for _ in 0..8u32 {
         r = bit_step(r);
-        i += 1;
     }
     r
 }
@@ -86,20 +83,11 @@ fn bit_step(crc: u32) -> u32
 fn zero_byte() -> [u32; 32]
     ensures { result ≡ zero_byte }
 {
-    let mut out = [0u32; 32];
-    let mut i: u32 = 0;
-    while i < 32 {
-        let x = byte_step(1u32 << i, 0);
-        let k = i as usize;
-        out[k] = x;
-        i += 1;
-    }
-    out
+    array::from_fn(|i| byte_step(1 << i, 0))
 }
 
 // An operator n times, at a register: its square half as often, after the odd one.
 fn power(op: &[u32; 32], x: u32, n: u64) -> u32
-    requires { length op.now ≡ 32 }
     ensures { result ≡ iterated (applied op.now) n x }
 {
     let y = odd_one(op, x, n);
@@ -111,8 +99,8 @@ fn power(op: &[u32; 32], x: u32, n: u64) -> u32
 }
 
 // An operator once at a register where n is odd.
+#[tactic(auto, unfolding(crate::specs::Matrix::iterated))]
 fn odd_one(op: &[u32; 32], x: u32, n: u64) -> u32
-    requires { length op.now ≡ 32 }
     ensures { result ≡ iterated (applied op.now) (n % 2) x }
 {
     if n % 2 == 1 { apply(op, x) } else { x }
@@ -120,33 +108,22 @@ fn odd_one(op: &[u32; 32], x: u32, n: u64) -> u32
 
 // An operator after itself.
 fn square(op: &[u32; 32]) -> [u32; 32]
-    requires { length op.now ≡ 32 }
     ensures { result ≡ map (applied op.now) op.now }
 {
-    let mut out = [0u32; 32];
-    let mut i: usize = 0;
-    while i < 32 {
-        let x = op[i];
-        out[i] = apply(op, x);
-        i += 1;
-    }
-    out
+    op.map(|x| apply(op, x))
 }
 
 // An operator at a register: the sum of its columns at the register's ones.
 fn apply(op: &[u32; 32], x: u32) -> u32
-    requires { length op.now ≡ 32 }
     ensures { result ≡ applied op.now x }
 {
-    let mut acc: u32 = 0;
+    let mut acc = 0;
     let mut rest = x;
-    let mut i: usize = 0;
-    while i < 32 {
+    for column in op {
         if rest % 2 == 1 {
-            acc = acc ^ op[i];
+            acc ^= *column;
         }
-        rest = rest >> 1;
-        i += 1;
+        rest >>= 1;
     }
     acc
 }

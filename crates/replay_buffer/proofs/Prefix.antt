@@ -29,9 +29,6 @@ same_front i j m n e f = rw (e, f)
 
 -- ---- the loop, which has passed i chunks of n bytes; the next begins at `at`
 
-pub after_none : (f : Front) → f ≡ after 0 0 f
-after_none f = same_front _ _ _ _ (omega arith) (omega arith)
-
 after_all : (i n : ℕ) → after i n nothing ≡ record { chunks = i; bytes = n }
 after_all i n = same_front _ _ _ _ (omega arith) (omega arith)
 

@@ -54,8 +54,7 @@ pub record Stored (b : ReplayBuffer) (f : Front) : Type 0 where
 
 -- the buffer less f
 unfoldable pub advanced : Lent → ReplayBuffer → Front → ReplayBuffer
-advanced m b f = record {
-  capacity = b.capacity;
+advanced m b f = record b {
   head = wrapped m.size (b.head + f.bytes);
   unpersisted_bytes = b.unpersisted_bytes - f.bytes;
   first = wrapped m.slots (b.first + f.chunks);

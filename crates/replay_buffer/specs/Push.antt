@@ -13,13 +13,7 @@ pub record Room (slots : ℕ) (b : ReplayBuffer) (n table : ℕ) : Type 0 where
   pub stored_in : b.unpersisted_bytes + n < 2 ^ 31
 
 abbrev pub pushed : ReplayBuffer → ℕ → ReplayBuffer
-pushed b n = record {
-  capacity = b.capacity;
-  head = b.head;
-  unpersisted_bytes = b.unpersisted_bytes + n;
-  first = b.first;
-  chunks = b.chunks + 1;
-}
+pushed b n = record b { unpersisted_bytes = b.unpersisted_bytes + n; chunks = b.chunks + 1 }
 
 -- a chunk of n bytes with a sum is pushed; its bytes stand behind the stored ones
 pub record Pushes (slots : ℕ) (b : ReplayBuffer) (table : List ℕ) (n sum : ℕ) (r : ReplayBuffer) (table' : List ℕ) : Type 0 where

@@ -54,17 +54,10 @@ struct Front {
 pub fn ring_size(capacity: usize, limit: usize) -> usize
     ensures { capacity ≤ max_capacity → limit ≤ max_chunk → result ≡ store_size capacity limit }
 {
-    if MAX_CAPACITY < capacity {
+    if capacity > MAX_CAPACITY || limit > MAX_WRITE_CHUNK_SIZE {
         return 0;
     }
-    if MAX_WRITE_CHUNK_SIZE < limit {
-        return 0;
-    }
-    let sum = capacity + 2 * limit;
-    if sum < 2 {
-        return 0;
-    }
-    sum - 2
+    (capacity + 2 * limit).saturating_sub(2)
 }
 
 // Enqueues a chunk, whose bytes stand behind the stored ones already.
@@ -78,16 +71,12 @@ pub fn push(
     requires { Room slots b length (lib.ListN.length table.old) }
     ensures { Pushes slots b table.old length crc32c result table.new }
 {
-    let first = b.first;
-    let chunks = b.chunks;
     let word = pack(length as u32, crc32c);
-    ring::put_word(table, slots, first, chunks, word);
+    ring::put_word(table, slots, b.first, b.chunks, word);
     ReplayBuffer {
-        capacity: b.capacity,
-        head: b.head,
         unpersisted_bytes: b.unpersisted_bytes + length,
-        first,
-        chunks: chunks + 1,
+        chunks: b.chunks + 1,
+        ..b
     }
 }
 
@@ -104,10 +93,8 @@ pub fn ack(
     requires { (Fits (lent size slots) b (to_ℕ end.0) (length store.now) (length table.old)) × (lt_z end.0 (pos 0) ≡ false) }
     ensures { Acks (lent size slots) b (to_ℕ end.0) store.now table.old persisted.0 result table.new }
 {
-    let first = b.first;
-    let chunks = b.chunks;
     let start = bidi_write::minus(end, b.unpersisted_bytes);
-    let front = acknowledged(table, slots, first, chunks, start, persisted);
+    let front = acknowledged(table, slots, b.first, b.chunks, start, persisted);
     // no table that pushes and acknowledgements leave
     if b.unpersisted_bytes < front.bytes {
         return Acked {
@@ -144,36 +131,33 @@ fn acknowledged(
     requires { Within (length table.now) slots first 0 chunks }
     ensures { result ≡ front_of persisted.0 start.0 (part slots first 0 chunks table.now) }
 {
-    let mut i: usize = 0;
-    let mut bytes: usize = 0;
+    let mut bytes = 0;
     let mut at = start;
-    while i < chunks {
+    for i in 0..chunks {
         let len = len_of(ring::word_at(table, slots, first, i));
         if !ends_by(at, len, persisted) {
-            break;
+            return Front { chunks: i, bytes };
         }
         at = bidi_write::plus(at, len as usize);
         bytes += len as usize;
-        i += 1;
     }
-    Front { chunks: i, bytes }
+    Front { chunks, bytes }
 }
 
 // The buffer less what is at its front.
+#[tactic(auto, unfolding(crate::specs::Ack::advanced))]
 fn advance(b: ReplayBuffer, size: usize, slots: usize, f: Front) -> ReplayBuffer
     requires stored { Stored b f }
     requires head_lt_size { (b.head < size) × (b.unpersisted_bytes ≤ size) × (size < 2 ^ 31) }
     requires first_lt_slots { (b.first < slots) × (b.chunks ≤ slots) × (slots < 2 ^ 63) }
     ensures { result ≡ advanced (lent size slots) b f }
 {
-    let head = ring::wrap(b.head + f.bytes, size);
-    let first = ring::wrap(b.first + f.chunks, slots);
     ReplayBuffer {
-        capacity: b.capacity,
-        head,
+        head: ring::wrap(b.head + f.bytes, size),
         unpersisted_bytes: b.unpersisted_bytes - f.bytes,
-        first,
+        first: ring::wrap(b.first + f.chunks, slots),
         chunks: b.chunks - f.chunks,
+        ..b
     }
 }
 
@@ -204,28 +188,21 @@ fn trim(
     if b.chunks == 0 {
         return b;
     }
-    let first = b.first;
     let start = bidi_write::minus(end, b.unpersisted_bytes);
     let trimmed = past(persisted, start);
     if trimmed == 0 {
         return b;
     }
-    let len = len_of(ring::word_at(table, slots, first, 0)) as usize;
+    let len = len_of(ring::word_at(table, slots, b.first, 0)) as usize;
     // no table that pushes and acknowledgements leave
-    if len as u64 <= trimmed {
-        return b;
-    }
-    if b.unpersisted_bytes < len {
+    if len as u64 <= trimmed || b.unpersisted_bytes < len {
         return b;
     }
     let bytes = trimmed as usize;
-    let front = Front { chunks: 0, bytes };
-    let rest = advance(b, size, slots, front);
-    let head = rest.head;
-    let first = rest.first;
-    let sum = ring::sum_at(store, size, head, 0, len - bytes);
+    let rest = advance(b, size, slots, Front { chunks: 0, bytes });
+    let sum = ring::sum_at(store, size, rest.head, 0, len - bytes);
     let word = pack((len - bytes) as u32, sum);
-    ring::put_word(table, slots, first, 0, word);
+    ring::put_word(table, slots, rest.first, 0, word);
     rest
 }
 
@@ -252,23 +229,15 @@ pub fn chunk_to_replay(
     requires { (Fits (lent size slots) b (to_ℕ end.0) (length store.now) (length table.now)) × (lt_z end.0 (pos 0) ≡ false) }
     ensures { Replays (lent size slots) b (to_ℕ end.0) store.now table.now next at out.old result out.new }
 {
-    let head = b.head;
-    let first = b.first;
     if b.chunks <= next {
         return no_chunk();
     }
-    let word = ring::word_at(table, slots, first, next);
+    let word = ring::word_at(table, slots, b.first, next);
     let length = len_of(word) as usize;
-    if out.len() < length {
+    if out.len() < length || b.unpersisted_bytes < at || b.unpersisted_bytes - at < length {
         return no_chunk();
     }
-    if b.unpersisted_bytes < at {
-        return no_chunk();
-    }
-    if b.unpersisted_bytes - at < length {
-        return no_chunk();
-    }
-    ring::copy_out(store, size, head, at, out, length);
+    ring::copy_out(store, size, b.head, at, out, length);
     let start = bidi_write::minus(end, b.unpersisted_bytes);
     Chunk {
         write_offset: bidi_write::plus(start, at),

@@ -4,10 +4,11 @@ use mathlib.Core.Path.{◌≡◌, refl, sym, ap, ap₂, ◌∙◌}
 use mathlib.Core.List.{List, [], ◌∷◌, ◌++◌, append_assoc, append-nil}
 use mathlib.Core.Logic.{⊎_elim}
 use Prim.Native.Nat.{ℕ, ◌+◌, ◌-◌, ◌<◌, ◌≤◌, min}
-use native.Mathlib.Nat.{add-zero, zero-add}
+use native.Mathlib.Nat.{add-zero}
 use native.Mathlib.Omega.{arith}
-use lib.ListN.{length, take, drop, get_or, set, length-drop, drop_of_length-le}
-use lib.Seq.{paste, paste-zero, length-paste, length-take-le, get_or-take, get_or-drop, take_at, drop-append-add, drop-drop, take-length, take_all}
+use lib.ListN.{length, take, drop, get_or, set, length-drop}
+use lib.Seq.{paste, paste-zero, length-paste, length-take-le, get_or-take, get_or-drop, take_at, drop-append-add, drop-drop}
+use borrow.Rule.Slice.PartMut.{put_mid}
 use Rattle.ring.specs.Ring.{wrapped, ring, part, Within, Written}
 use Rattle.ring.proofs.Paste.{take_past_paste, drop_past_paste, part-take, paste_one}
 use Rattle.ring.proofs.Rot.{lt_or_ge, wrapped_is, wrapped_lt, rot_paste, part-rot}
@@ -94,18 +95,18 @@ module _ {A : Type 0} (size head at n from k : ℕ) (s : List A) (w : Within (le
       rw p (rw m at one))
       (lt_or_ge k n)
 
+-- a run that is put into a list from `at` on
+pub run_put : {A : Type 0} (d src : List A) (at k m : ℕ) → m ≡ k → put_mid at m d src ≡ take at d ++ src ++ drop (at + k) d
+run_put d src at k m e = rw (e, drop-drop k at d) (sym (append_assoc (take at d) src (drop (at + k) d)))
+
 -- two runs to the front of a list
-pub runs_out : {A : Type 0} (r₁ r₂ o o₁ o₂ : List A) (k n : ℕ) → length r₁ ≡ k → length r₂ ≡ n - k → k ≤ n
-    → o₁ ≡ take 0 o ++ r₁ ++ drop (0 + length r₁) o → o₂ ≡ take k o₁ ++ r₂ ++ drop (k + length r₂) o₁
-    → o₂ ≡ (r₁ ++ r₂) ++ drop n o
-runs_out {A} r₁ r₂ o o₁ o₂ k n l₁ l₂ h e₁ e₂ =
-    let d : o₁ ≡ r₁ ++ drop k o = e₁ ∙ rw (zero-add, l₁) in
-    let t : take k o₁ ≡ r₁ = ap (take k) d ∙ take_at r₁ (drop k o) k l₁ in
-    let m : k + length r₂ ≡ length r₁ + (n - k) = omega arith in
+pub runs_out : {A : Type 0} (r₁ r₂ o : List A) (k n : ℕ) → length r₁ ≡ k → k ≤ n → put_mid k (n - k) (r₁ ++ drop k o) r₂ ≡ r₁ ++ r₂ ++ drop n o
+runs_out r₁ r₂ o k n l h =
+    let m : k + (n - k) ≡ length r₁ + (n - k) = omega arith in
     let q : k + (n - k) ≡ n = omega arith in
-    let u : drop (k + length r₂) o₁ ≡ drop n o =
-    ap₂ (λ (j : ℕ) (x : List A). drop j x) m d ∙ drop-append-add r₁ (drop k o) (n - k) ∙ drop-drop (n - k) k o ∙ ap (λ (j : ℕ). drop j o) q in
-    e₂ ∙ rw (t, u)
+    let u : drop (k + (n - k)) (r₁ ++ drop k o) ≡ drop n o =
+    ap (λ (j : ℕ). drop j (r₁ ++ drop k o)) m ∙ drop-append-add r₁ (drop k o) (n - k) ∙ drop-drop (n - k) k o ∙ ap (λ (j : ℕ). drop j o) q in
+    run_put (r₁ ++ drop k o) r₂ k (n - k) (n - k) refl ∙ rw (take_at r₁ (drop k o) k l, u) refl
 
 -- one element
 module _ {A : Type 0} (size head at : ℕ) (s : List A) (w : Within (length s) size head at 1) where
@@ -129,11 +130,3 @@ module _ {A : Type 0} (size head at : ℕ) (s : List A) (w : Within (length s) s
       let p : wrapped size (head + at) + 1 ≤ size = omega (arith, place_lt) in
       let l : wrapped size (head + at) < length s = omega (arith, place_lt, w) in
       rw (sym (paste_one s (wrapped size (head + at)) a l)) (run_written size head at 1 s w p (a ∷ []) (omega arith))
-
--- a list that is put at the front of what a list has from `at` on
-pub run_put : {A : Type 0} (d src last : List A) (at : ℕ) → last ≡ take (length src) src ++ drop (length src) (take (length d - at) (drop at d))
-    → take at d ++ (last ++ drop (length d - at) (drop at d)) ≡ take at d ++ src ++ drop (at + length src) d
-run_put {A} d src last at e =
-    let b : length (drop at d) ≤ length d - at = simp length-drop (omega arith) in
-    rw (e, take-length src, take_all (length d - at) (drop at d) b, drop_of_length-le (drop at d) b, append-nil (src ++ drop (length src) (drop at d)), drop-drop)
-    (sym (append_assoc (take at d) src (drop (at + length src) d)))

@@ -14,21 +14,6 @@ pub fn wrap(at: usize, n: usize) -> usize
     if at < n { at } else { at - n }
 }
 
-// How much of a range of n elements lies before the ring's end, which is `room` places on.
-fn first_run(n: usize, room: usize) -> usize
-    ensures { result ≡ min n room }
-{
-    if n < room { n } else { room }
-}
-
-// One straight run: all of src goes to dst's places at, at + 1, ..
-fn copy(dst: &mut [u8], at: usize, src: &[u8])
-    requires { at + length src.now ≤ length dst.old }
-    ensures { dst.new ≡ take at dst.old ++ src.now ++ drop (at + length src.now) dst.old }
-{
-    dst[at..at + src.len()].copy_from_slice(src);
-}
-
 // The first n bytes of src go to the ring's places at, at + 1, .., counted from head.
 pub fn copy_in(store: &mut [u8], size: usize, head: usize, at: usize, src: &[u8], n: usize)
     requires within { Within (length store.old) size head at n }
@@ -36,9 +21,9 @@ pub fn copy_in(store: &mut [u8], size: usize, head: usize, at: usize, src: &[u8]
     ensures { Written size head at src.now n store.old store.new }
 {
     let from = wrap(head + at, size);
-    let k = first_run(n, size - from);
-    copy(store, from, &src[..k]);
-    copy(store, 0, &src[k..n]);
+    let k = n.min(size - from);
+    store[from..from + k].copy_from_slice(&src[..k]);
+    store[..n - k].copy_from_slice(&src[k..n]);
 }
 
 // The n bytes at the ring's places at, at + 1, .., counted from head, go to the front of out.
@@ -48,9 +33,9 @@ pub fn copy_out(store: &[u8], size: usize, head: usize, at: usize, out: &mut [u8
     ensures { out.new ≡ part size head at n store.now ++ drop n out.old }
 {
     let from = wrap(head + at, size);
-    let k = first_run(n, size - from);
-    copy(out, 0, &store[from..from + k]);
-    copy(out, k, &store[..n - k]);
+    let k = n.min(size - from);
+    out[..k].copy_from_slice(&store[from..from + k]);
+    out[k..n].copy_from_slice(&store[..n - k]);
 }
 
 // The CRC32C of the n bytes at the ring's places at, at + 1, .., counted from head.
@@ -59,7 +44,7 @@ pub fn sum_at(store: &[u8], size: usize, head: usize, at: usize, n: usize) -> u3
     ensures { result ≡ crc_of (part size head at n store.now) }
 {
     let from = wrap(head + at, size);
-    let k = first_run(n, size - from);
+    let k = n.min(size - from);
     let sum = crc32c::crc32c(&store[from..from + k]);
     if k < n {
         crc32c::update(sum, &store[..n - k])
@@ -82,6 +67,5 @@ pub fn word_at(table: &[u64], slots: usize, first: usize, at: usize) -> u64
     requires { Within (length table.now) slots first at 1 }
     ensures { result ≡ get_or (ring slots first table.now) at 0 }
 {
-    let from = wrap(first + at, slots);
-    table[from]
+    table[wrap(first + at, slots)]
 }

@@ -1,10 +1,8 @@
-use Prim.Native.Nat.{◌-◌, ◌≤◌}
-use lib.ListN.{length, take}
+use Rattle.std.proofs.Common.{◌≡◌, ℕ, List, ◌++◌}
+use Rattle.std.specs.Slice.Iter.{chunks_rest, chunks_size}
 use Rattle.copying.specs.Written.{Written}
 use Rattle.copying.proofs.put_blocks.Given as goal
 
-abbrev pub invariant-loop-from : goal.invariant-loop-from
-invariant-loop-from l = (l.from ≤ length l.src) × Written (take l.from l.src) l.initial.buffer l.buffer l.at l.i
-
-abbrev pub decreases-loop-from : goal.decreases-loop-from
-decreases-loop-from l = length l.src - l.from
+abbrev pub invariant-loop-block : goal.invariant-loop-block
+invariant-loop-block l =
+    (chunks_size l.block-iterator ≡ 2048) × ((done : List ℕ) × (l.src ≡ done ++ chunks_rest l.block-iterator) × Written done l.initial.buffer l.buffer l.at l.i)

@@ -1,32 +1,19 @@
-use Rattle.std.proofs.Common.{◌≡◌, ℕ, ◌*◌, ◌%◌, ◌^◌, ◌<◌, length, sym, refl, ap, ◌∙◌, not-suc-le-zero, one-mul, zero-add, arith, lit<, length-set, ext_get_or, shl_exact, rules}
+use Rattle.std.proofs.Common.{ℕ, ◌*◌, ◌%◌, ◌^◌, ◌≡◌, ◌<◌, sym, ap, ◌∙◌, one-mul, zero-add, arith, lit<, ext_get_or, shl_exact, rules}
 use lib.Bits.{xor_zero_r}
 use Rattle.crc32c.specs.Reg.{steps, feed}
 use Rattle.crc32c.specs.Matrix.{zero_byte}
-use Rattle.crc32c.proofs.Filled.{filled_more}
+use Rattle.crc32c.proofs.Made.{made}
 use Rattle.crc32c.proofs.Operator.{get_d_columns, length-columns}
 use Rattle.crc32c.proofs.zero_byte.Goals as goal
 
-pub loop-i-init : goal.loop-i-init
-loop-i-init c = (search rules, refl, λ k h. absurd (not-suc-le-zero h))
-
-pub loop-i-preserved : goal.loop-i-preserved
+fed : (i : ℕ) → i < 32 → feed (1 * 2 ^ i % 2 ^ 32) 0 ≡ steps 8 (2 ^ i)
 unfolding feed
-loop-i-preserved c =
-    let i : ℕ = c.loop-i.i in
-    let out = c.loop-i.out in
-    let lt : i < length out = omega arith in
-    let small : 1 * 2 ^ i % 2 ^ 32 ≡ 2 ^ i = shl_exact 1 i 32 (lit< tt) (omega arith) ∙ one-mul (2 ^ i) in (
-      search rules,
-      length-set out i c.byte_step-x.result ∙ c.loop-i.invariant.1,
-      filled_more (λ (k : ℕ). steps 8 (2 ^ k)) i out c.byte_step-x.result lt
-          (c.byte_step-x.ensures ∙ ap (steps 8) (xor_zero_r (1 * 2 ^ i % 2 ^ 32) ∙ small)) c.loop-i.invariant.2,
-    )
+fed i h = ap (steps 8) (xor_zero_r (1 * 2 ^ i % 2 ^ 32) ∙ shl_exact 1 i 32 (lit< tt) (omega arith) ∙ one-mul (2 ^ i))
 
 pub returns : goal.returns
 unfolding zero_byte
 returns c =
-    let out = c.loop-i.out in
-    let n : c.loop-i.i ≡ 32 = omega arith in
-    ext_get_or 0 out zero_byte (c.loop-i.invariant.1 ∙ sym (length-columns (steps 8) 32 0))
-    (λ k h. let lt : k < 32 = omega arith in
-    c.loop-i.invariant.2 k (omega arith) ∙ sym (get_d_columns (steps 8) 32 0 k lt ∙ ap (λ (j : ℕ). steps 8 (2 ^ j)) (zero-add k)))
+    ext_get_or 0 c.from_fn.result zero_byte (c.from_fn.ensures.items.long ∙ sym (length-columns (steps 8) 32 0))
+    (λ k lt. let b : k < 32 = omega (arith, c.from_fn.ensures.items.long) in
+    made _ _ (λ (i : ℕ). feed (1 * 2 ^ i % 2 ^ 32) 0) 32 (λ i y q l r. search rules) c.from_fn.result 0 c.from_fn.ensures.items k b
+    ∙ fed k b ∙ sym (get_d_columns (steps 8) 32 0 k b ∙ ap (λ (j : ℕ). steps 8 (2 ^ j)) (zero-add k)))

@@ -2,7 +2,6 @@
 use mathlib.Core.Path.{◌≡◌, refl, ap, ◌∙◌}
 use Prim.Native.Nat.{◌-◌}
 use native.Mathlib.Omega.{arith}
-use borrow.Author.Rules.{rules}
 use lib.IntN.{ℤ, pos}
 use Rattle.bidi_write.specs.Numbers.{to_ℕ}
 use Rattle.bidi_write.proofs.Offsets.{minus_is}
@@ -27,16 +26,16 @@ front c =
 stored : (c : Else-b-front) → Stored c.args.b c.acknowledged-front.result
 stored c =
     let o = c.minus-start.ensures ∙ minus_is c.args.end.0 c.args.b.unpersisted_bytes c.requires.1 c.requires.0.started in
-    front_stored (lent c.args.size c.args.slots) c.args.b (to_ℕ c.args.end.0) c.args.store.now c.args.table.now c.requires.0 c.args.persisted.0 c.acknowledged-front.result (c.acknowledged-front.ensures ∙ ap (λ (z : ℤ). front_of c.args.persisted.0 z (words_of (lent c.args.size c.args.slots) c.args.b c.args.table.now)) o) c.if-b-front.false
+    front_stored _ _ _ _ _ c.requires.0 c.args.persisted.0 c.acknowledged-front.result (c.acknowledged-front.ensures ∙ ap (λ (z : ℤ). front_of c.args.persisted.0 z (words_of (lent c.args.size c.args.slots) c.args.b c.args.table.now)) o) c.if-b-front.false
 
 -- what is left was stored
 
 pub returns-then-b-front : goal.returns-then-b-front
 returns-then-b-front c =
-    acks_too_long (lent c.args.size c.args.slots) c.args.b (to_ℕ c.args.end.0) c.args.store.now c.args.table.now c.requires.0 c.args.persisted.0 c.acknowledged-front.result (front (goal.at.returns-then-b-front c).After-acknowledged-front) c.if-b-front.true
+    acks_too_long _ _ _ _ _ c.requires.0 c.args.persisted.0 c.acknowledged-front.result (front (goal.at.returns-then-b-front c).After-acknowledged-front) c.if-b-front.true
 
-pub advance-rest-requires : goal.advance-rest-requires
-advance-rest-requires c = record { stored = stored c; head_lt_size = search rules; first_lt_slots = search rules }
+pub advance-rest-requires-clause-stored : goal.advance-rest-requires-clause-stored
+advance-rest-requires-clause-stored c = stored c
 
 pub trim-buffer-requires : goal.trim-buffer-requires
 trim-buffer-requires c = (
@@ -52,5 +51,5 @@ overflow_sub-released c =
 
 pub returns : goal.returns
 returns c =
-    acks_trimmed (lent c.args.size c.args.slots) c.args.b (to_ℕ c.args.end.0) c.args.store.now c.args.table.now c.requires.0 c.args.persisted.0 c.acknowledged-front.result (front (goal.at.returns c).After-acknowledged-front) c.trim-buffer.result c.trim-buffer.new.table (stored (goal.at.returns c).Else-b-front)
+    acks_trimmed _ _ _ _ _ c.requires.0 c.args.persisted.0 c.acknowledged-front.result (front (goal.at.returns c).After-acknowledged-front) c.trim-buffer.result c.trim-buffer.new.table (stored (goal.at.returns c).Else-b-front)
     (rw c.advance-rest.ensures at c.trim-buffer.ensures)

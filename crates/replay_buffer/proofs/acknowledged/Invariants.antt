@@ -1,5 +1,4 @@
 use mathlib.Core.Path.{◌≡◌}
-use Prim.Native.Nat.{◌-◌, ◌≤◌}
 use lib.IntN.{pos, ◌+ℤ◌}
 use lib.ListN.{drop}
 use Rattle.ring.specs.Ring.{part}
@@ -8,8 +7,5 @@ use Rattle.replay_buffer.proofs.acknowledged.Given as goal
 
 abbrev pub invariant-loop-i : goal.invariant-loop-i
 invariant-loop-i l =
-    (l.i ≤ l.chunks) × (l.at.0 ≡ l.initial.at.0 +ℤ pos l.bytes)
+    (l.at.0 ≡ l.initial.at.0 +ℤ pos l.bytes)
     × (front_of l.persisted.0 l.initial.at.0 (part l.slots l.first 0 l.chunks l.table) ≡ after l.i l.bytes (front_of l.persisted.0 l.at.0 (drop l.i (part l.slots l.first 0 l.chunks l.table))))
-
-abbrev pub decreases-loop-i : goal.decreases-loop-i
-decreases-loop-i l = l.chunks - l.i

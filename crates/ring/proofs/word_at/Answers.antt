@@ -5,4 +5,4 @@ use Rattle.ring.proofs.word_at.Goals as goal
 pub returns : goal.returns
 returns c =
     let a = c.args in
-    rw c.wrap-from.ensures (sym (element_read a.slots a.first a.at a.table.now c.requires 0))
+    rw c.wrap.ensures (sym (element_read a.slots a.first a.at a.table.now c.requires 0))

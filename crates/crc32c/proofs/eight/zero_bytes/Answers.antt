@@ -8,4 +8,4 @@ returns c =
     let k : ℕ = c.args.k in
     let x : ℕ = c.args.byte in
     let right = c.requires.half_byte_table.right in
-    ap₂ bit_xor (right (2 * k + 1) (x % 16) (omega arith) (omega arith)) (right (2 * k) (x / 16) (omega arith) (omega arith)) ∙ sym (halves k x)
+    rw (c.from-x.ensures) (ap₂ bit_xor (right (2 * k + 1) (x % 16) (omega arith) (omega arith)) (right (2 * k) (x / 16) (omega arith) (omega arith)) ∙ sym (halves k x))
