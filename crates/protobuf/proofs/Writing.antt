@@ -1,13 +1,14 @@
 -- The bytes of fields, and what writing their pieces one behind the other writes.
 -- Assumes nothing.
-use mathlib.Core.Path.{◌≡◌, refl, ap, ◌∙◌}
+use mathlib.Core.Path.{◌≡◌, ap, ◌∙◌}
 use mathlib.Core.Bool.{Bool, true, false}
 use mathlib.Core.List.{[], ◌∷◌, ◌++◌, append-nil, append_assoc}
 use Prim.Native.Nat.{ℕ, zero, suc, ◌+◌, ◌*◌, ◌/◌, ◌%◌, ◌^◌, ◌≤◌, ◌<◌}
-use native.Mathlib.Numerals.{add-one, add-two, add-three}
+use native.Mathlib.Numerals.{add-one}
 use native.Mathlib.Omega.{arith}
 use lib.ListN.{length, set, length-append}
 use lib.Seq.{sets}
+use Rattle.std.specs.Int.{w32, to_le_bytes}
 use Rattle.little_endian.specs.Little.{digits}
 use Rattle.protobuf_format.proofs.Varint.{varint_of_few, varint_of-many}
 use Rattle.protobuf_format.specs.Reading.{Bytes}
@@ -24,9 +25,9 @@ written_none = written-nothing
 
 -- ---- slots
 
-pub int-nothing : (k n : ℕ) (buffer : Bytes) (at : ℕ) → n ≡ 0 → Written (write (plain_int k n)) buffer buffer at at
+pub int_nothing : (k n : ℕ) (buffer : Bytes) (at : ℕ) → n ≡ 0 → Written (write (plain_int k n)) buffer buffer at at
 unfolding write
-int-nothing k n buffer at e = rw e (written-nothing buffer at)
+int_nothing k n buffer at e = rw e (written-nothing buffer at)
 
 int-bytes : (k n : ℕ) → 0 < n → write (plain_int k n) ≡ varint_of (k * 8 + 0) ++ varint_of n
 unfolding write field_bytes value_bytes
@@ -92,12 +93,13 @@ pub bool_written : (k : ℕ) (b : Bool) {x y z : Bytes} {at i j : ℕ} → b ≡
     → Written (write (plain_bool k b)) x z at j
 bool_written k b e p q = rw e (int-written k 1 (omega arith) p q)
 
--- ---- bytes one by one
+-- ---- four bytes, as the library writes them
 
-pub store_four : (v : ℕ) (buffer : Bytes) (at : ℕ)
-    → Written (digits 4 v) buffer
-    (set (set (set (set buffer at (v % 256)) (at + 1) (v / 256 % 256)) (at + 2) (v / 256 / 256 % 256)) (at + 3) (v / 256 / 256 / 256 % 256)) at (at + 4)
-store_four v buffer at = record { place = refl; stored = rw (add-one, add-two, add-three) }
+pub four-bytes : (v : ℕ) → to_le_bytes w32 v ≡ digits 4 v
+four-bytes v =
+    let e : v / 65536 ≡ v / 256 / 256 = omega arith in
+    let f : v / 16777216 ≡ v / 256 / 256 / 256 = omega arith in
+    rw (e, f)
 
 -- ---- a varint, a group at a time
 

@@ -24,8 +24,9 @@ pub fn varint_len(n: u64) -> usize
 {
     let mut rest = n;
     let mut count: usize = 1;
+    // no index is counted: the number falls
     while rest >= 128 {
-        rest = rest / 128;
+        rest /= 128;
         count += 1;
     }
     count
@@ -38,9 +39,10 @@ fn put_varint(buffer: &mut [u8], at: usize, n: u64) -> usize
 {
     let mut rest = n;
     let mut i = at;
+    // no index is counted: i is the place that is returned
     while rest >= 128 {
         buffer[i] = (128 + rest % 128) as u8;
-        rest = rest / 128;
+        rest /= 128;
         i += 1;
     }
     buffer[i] = rest as u8;
@@ -60,10 +62,7 @@ fn put_four(buffer: &mut [u8], at: usize, v: u32) -> usize
     requires { at + 4 ≤ length buffer.old }
     ensures { Written (digits 4 v) buffer.old buffer.new at result }
 {
-    buffer[at] = (v % 256) as u8;
-    buffer[at + 1] = (v / 256 % 256) as u8;
-    buffer[at + 2] = (v / 256 / 256 % 256) as u8;
-    buffer[at + 3] = (v / 256 / 256 / 256 % 256) as u8;
+    buffer[at..at + 4].copy_from_slice(&v.to_le_bytes());
     at + 4
 }
 
@@ -72,7 +71,8 @@ pub fn put_int(buffer: &mut [u8], at: usize, number: u8, n: u64) -> usize
     requires { at + length (write (plain_int number n)) ≤ length buffer.old }
     ensures { Written (write (plain_int number n)) buffer.old buffer.new at result }
 {
-    if n == 0 {
+    let absent = n == 0;
+    if absent {
         return at;
     }
     let i = put_key(buffer, at, number, VARINT);
@@ -114,7 +114,7 @@ pub fn put_bytes(buffer: &mut [u8], at: usize, number: u8, src: &[u8]) -> usize
     requires { at + length (write (plain_bytes number src.now)) ≤ length buffer.old }
     ensures { Written (write (plain_bytes number src.now)) buffer.old buffer.new at result }
 {
-    if src.len() == 0 {
+    if src.is_empty() {
         return at;
     }
     let i = put_head(buffer, at, number, src.len() as u64);

@@ -1,2 +1,2 @@
 pub mod Groups
-pub mod Value
+pub mod Wire

@@ -3,10 +3,10 @@
 
 ghost use Rattle.std.specs.Prelude.{◌≡◌, ◌≤◌, length, drop};
 ghost use Rattle.protobuf_format.specs.Varint.{groups, varint};
-ghost use Rattle.protobuf_format.specs.Field.{read_field};
+ghost use Rattle.protobuf_format.specs.Field.{read_value, read_field};
 ghost use Rattle.protobuf_fields.specs.Got.{Reads};
 ghost use Rattle.protobuf_fields.specs.Found.{Finds};
-ghost use Rattle.protobuf_fields.specs.Parts.{small, more_of, numbered};
+ghost use Rattle.protobuf_fields.specs.Parts.{small, more_of, Values};
 
 // Wire types.
 const VARINT: u64 = 0;
@@ -29,127 +29,129 @@ const GROUPS: usize = 10;
 // The number behind the lowest group is less, in 64 bits.
 const HIGH: u64 = 1 << 57;
 
-// A number and the place behind its varint.
+// The bytes are no varint, or no field.
 #[derive(Clone, Copy)]
-pub enum Got {
-    Value(u64, usize),
-    Malformed,
+pub struct Malformed;
+
+// Where some bytes start, and how many they are.
+#[derive(Clone, Copy)]
+pub struct Part {
+    pub start: usize,
+    pub len: usize,
 }
 
-// A field by its wire type: its number; its value, or where the value's bytes start (and how many there are); and the place behind it.
-#[derive(Clone, Copy)]
-pub enum Found {
-    Int(u64, u64, usize),
-    Fixed64(u64, usize, usize),
-    Bytes(u64, usize, usize, usize),
-    Fixed32(u64, usize, usize),
-    Malformed,
-}
+impl Part {
+    ghost use Rattle.std.specs.Prelude.{◌+◌};
+    ghost use Rattle.protobuf_fields.specs.Found.{bytes_in};
 
-// The byte b, which another follows, and the number behind it.
-fn more(b: u64, got: Got) -> Got
-    ensures { result ≡ more_of b got }
-{
-    match got {
-        Got::Malformed => Got::Malformed,
-        Got::Value(n, next) => {
-            if n < HIGH {
-                return Got::Value(b % MORE + MORE * n, next);
-            }
-            Got::Malformed
-        }
+    // Those bytes of the slice.
+    pub fn of<'a>(self, s: &'a [u8]) -> &'a [u8]
+        requires { self.start + self.len ≤ length s.now }
+        ensures { result.now ≡ bytes_in s.now self }
+    {
+        &s[self.start..self.start + self.len]
     }
 }
 
-fn wide(b: u8) -> u64
-    ensures { result ≡ b }
-{
-    b as u64
+// A value by its wire type: the number, or where its bytes are; of eight or four bytes, where they start.
+#[derive(Clone, Copy)]
+pub enum Value {
+    Int(u64),
+    Fixed64(usize),
+    Bytes(Part),
+    Fixed32(usize),
 }
 
-// A number of at most k groups.
-fn get_groups(s: &[u8], at: usize, k: usize) -> Got
+// A field, and the place behind it.
+#[derive(Clone, Copy)]
+pub struct Field {
+    pub number: u64,
+    pub value: Value,
+    pub next: usize,
+}
+
+// The byte b, which another follows, and the number n behind it.
+fn more(b: u64, n: u64) -> Result<u64, Malformed>
+    ensures { result ≡ more_of b n }
+{
+    if n < HIGH {
+        Ok(b % MORE + MORE * n)
+    } else {
+        Err(Malformed)
+    }
+}
+
+// A number of at most k groups, and the place behind it.
+#[tactic(auto, using(crate::proofs::Groups::none_left, crate::proofs::Groups::no_byte, crate::proofs::Groups::too_high, crate::proofs::Groups::more_byte))]
+fn get_groups(s: &[u8], at: usize, k: usize) -> Result<(u64, usize), Malformed>
     ensures { Reads result s.now at (small (groups k (drop at s.now))) }
 {
-    if k == 0 {
-        return Got::Malformed;
+    if k == 0 || s.len() <= at {
+        return Err(Malformed);
     }
-    if s.len() <= at {
-        return Got::Malformed;
-    }
-    let b = wide(s[at]);
+    let b = u64::from(s[at]);
     if b < MORE {
-        return Got::Value(b, at + 1);
+        return Ok((b, at + 1));
     }
-    more(b, get_groups(s, at + 1, k - 1))
+    let (n, next) = get_groups(s, at + 1, k - 1)?;
+    Ok((more(b, n)?, next))
 }
 
-// The varint at a place. One of a single byte, as most are, takes no further call.
-pub fn get_varint(s: &[u8], at: usize) -> Got
+// The varint at a place, and the place behind it. One of a single byte, as most are, takes no further call.
+#[tactic(auto, using(crate::proofs::Groups::no_byte, crate::proofs::Groups::too_high, crate::proofs::Groups::more_byte), unfolding(protobuf_format::specs::Varint::varint))]
+pub fn get_varint(s: &[u8], at: usize) -> Result<(u64, usize), Malformed>
     ensures { Reads result s.now at (varint (drop at s.now)) }
 {
     if s.len() <= at {
-        return Got::Malformed;
+        return Err(Malformed);
     }
-    let b = wide(s[at]);
+    let b = u64::from(s[at]);
     if b < MORE {
-        return Got::Value(b, at + 1);
+        return Ok((b, at + 1));
     }
-    more(b, get_groups(s, at + 1, GROUPS - 1))
+    let (n, next) = get_groups(s, at + 1, GROUPS - 1)?;
+    Ok((more(b, n)?, next))
 }
 
-// The value at a place, by its wire type. Groups, which are types 3 and 4, are malformed.
-fn get_value(s: &[u8], number: u64, wire_type: u64, at: usize) -> Found
+// The value at a place, by its wire type, and the place behind it. Groups, which are types 3 and 4, are malformed.
+#[tactic(auto, using(crate::proofs::Wire::int_some, crate::proofs::Wire::eight_none, crate::proofs::Wire::eight_some, crate::proofs::Wire::bytes_cut, crate::proofs::Wire::bytes_some, crate::proofs::Wire::four_none, crate::proofs::Wire::four_some, crate::proofs::Wire::no_value))]
+fn get_value(s: &[u8], wire_type: u64, at: usize) -> Result<(Value, usize), Malformed>
     requires { at ≤ length s.now }
-    ensures { Finds result s.now at (numbered number wire_type (drop at s.now)) }
+    ensures { Values result s.now at (read_value wire_type (drop at s.now)) }
 {
-    if wire_type == VARINT {
-        let got = get_varint(s, at);
-        let Got::Value(n, next) = got else {
-            return Found::Malformed;
-        };
-        return Found::Int(number, n, next);
-    }
-    if wire_type == I64 {
-        if s.len() - at < 8 {
-            return Found::Malformed;
+    match wire_type {
+        VARINT => {
+            let (n, next) = get_varint(s, at)?;
+            Ok((Value::Int(n), next))
         }
-        return Found::Fixed64(number, at, at + 8);
-    }
-    if wire_type == LEN {
-        let got = get_varint(s, at);
-        let Got::Value(n, start) = got else {
-            return Found::Malformed;
-        };
-        let len = n as usize;
-        if s.len() - start < len {
-            return Found::Malformed;
+        I64 if 8 <= s.len() - at => Ok((Value::Fixed64(at), at + 8)),
+        LEN => {
+            let (count, start) = get_varint(s, at)?;
+            let len = count as usize;
+            if s.len() - start < len {
+                return Err(Malformed);
+            }
+            Ok((Value::Bytes(Part { start, len }), start + len))
         }
-        return Found::Bytes(number, start, len, start + len);
+        I32 if 4 <= s.len() - at => Ok((Value::Fixed32(at), at + 4)),
+        _ => Err(Malformed),
     }
-    if wire_type == I32 {
-        if s.len() - at < 4 {
-            return Found::Malformed;
-        }
-        return Found::Fixed32(number, at, at + 4);
-    }
-    Found::Malformed
 }
 
 // The field at a place.
-pub fn get_field(s: &[u8], at: usize) -> Found
+#[tactic(auto, using(crate::proofs::Wire::number_zero, crate::proofs::Wire::number_high, crate::proofs::Wire::key_value))]
+pub fn get_field(s: &[u8], at: usize) -> Result<Field, Malformed>
     ensures { Finds result s.now at (read_field (drop at s.now)) }
 {
-    let got = get_varint(s, at);
-    let Got::Value(key, start) = got else {
-        return Found::Malformed;
-    };
+    let (key, start) = get_varint(s, at)?;
     let number = key / 8;
-    if number == 0 {
-        return Found::Malformed;
+    if number == 0 || LAST_NUMBER < number {
+        return Err(Malformed);
     }
-    if LAST_NUMBER < number {
-        return Found::Malformed;
-    }
-    get_value(s, number, key % 8, start)
+    let (value, next) = get_value(s, key % 8, start)?;
+    Ok(Field {
+        number,
+        value,
+        next,
+    })
 }

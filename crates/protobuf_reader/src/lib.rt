@@ -4,7 +4,7 @@
 ghost use Rattle.std.specs.Prelude.{◌≡◌};
 ghost use Rattle.protobuf_reader.specs.Steps.{Steps, behind_of, place_in, Moves};
 
-use protobuf_fields::{Found, get_field};
+use protobuf_fields::{Field, Malformed, get_field};
 
 #[derive(Clone, Copy)]
 pub struct Reader<'a> {
@@ -12,74 +12,44 @@ pub struct Reader<'a> {
     pub at: usize,
 }
 
-// The field at a place, or that the bytes end there.
-#[derive(Clone, Copy)]
-pub enum Step {
-    Field(Found),
-    End,
-}
-
-// A step, and the place behind it.
-#[derive(Clone, Copy)]
-pub struct Stepped {
-    pub step: Step,
-    pub at: usize,
-}
-
-fn field_at(s: &[u8], at: usize) -> Step
-    ensures { Steps result s.now at }
-{
-    if s.len() <= at {
-        return Step::End;
+impl<'a> Reader<'a> {
+    // A reader at a place.
+    pub fn seek(bytes: &'a [u8], at: usize) -> Reader<'a>
+        ensures { (result.bytes ≡ bytes.entry) × (result.at ≡ at) }
+    {
+        Reader { bytes, at }
     }
-    let found = get_field(s, at);
-    Step::Field(found)
-}
 
-// The place behind a step from `at`.
-fn place(step: Step, at: usize) -> usize
-    ensures { result ≡ place_in step at }
-{
-    match step {
-        Step::End => at,
-        Step::Field(found) => match found {
-            Found::Malformed => at,
-            Found::Int(_, _, next) => next,
-            Found::Fixed64(_, _, next) => next,
-            Found::Bytes(_, _, _, next) => next,
-            Found::Fixed32(_, _, next) => next,
-        },
+    // The field at the reader's place, or none where the bytes end there.
+    #[tactic(auto, using(crate::proofs::Answers::end_made, crate::proofs::Answers::field_made))]
+    pub fn next(self) -> Result<Option<Field>, Malformed>
+        ensures { Steps result self.entry.bytes.now self.entry.at }
+    {
+        if self.bytes.len() <= self.at {
+            return Ok(None);
+        }
+        Ok(Some(get_field(self.bytes, self.at)?))
+    }
+
+    // The reader behind a step that `next` answered: the field is not read again.
+    #[tactic(auto, using(crate::proofs::Answers::moves))]
+    pub fn on(self, step: Result<Option<Field>, Malformed>) -> Reader<'a>
+        ensures { (result.bytes ≡ self.entry.bytes) × Moves step self.entry.bytes.now self.entry.at result.at }
+    {
+        match step {
+            Ok(Some(field)) => Reader {
+                at: field.next,
+                ..self
+            },
+            _ => self,
+        }
     }
 }
 
-// A reader at a place.
-pub fn seek<'a>(bytes: &'a [u8], at: usize) -> Reader<'a>
-    ensures { (result.bytes ≡ bytes.entry) × (result.at ≡ at) }
+// The field at a place, which says the place behind it: where the bytes end or the field is malformed, that is the same place.
+#[tactic(auto, using(crate::proofs::Answers::place_had))]
+pub fn step_at(s: &[u8], at: usize) -> Result<Option<Field>, Malformed>
+    ensures { Steps result s.now at × (place_in result at ≡ behind_of s.now at) }
 {
-    Reader { bytes, at }
-}
-
-// The field at the reader's place.
-pub fn next<'a>(r: Reader<'a>) -> Step
-    ensures { Steps result r.entry.bytes.now r.entry.at }
-{
-    field_at(r.bytes, r.at)
-}
-
-// The reader behind a step that `next` answered: the field is not read again.
-pub fn on<'a>(r: Reader<'a>, step: Step) -> Reader<'a>
-    ensures { (result.bytes ≡ r.entry.bytes) × Moves step r.entry.bytes.now r.entry.at result.at }
-{
-    let at = place(step, r.at);
-    Reader { bytes: r.bytes, at }
-}
-
-// The field at a place, and the place behind it: where the bytes end or the field is malformed, the same place.
-pub fn step_at(s: &[u8], at: usize) -> Stepped
-    ensures { Steps result.step s.now at × (result.at ≡ behind_of s.now at) }
-{
-    let r = seek(s, at);
-    let step = next(r);
-    let q = on(r, step);
-    Stepped { step, at: q.at }
+    Reader::seek(s, at).next()
 }

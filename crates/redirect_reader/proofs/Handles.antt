@@ -1,98 +1,76 @@
 -- The handle, a field at a time, and a part of a part.
 -- Assumes nothing.
 use mathlib.Core.Path.{◌≡◌, refl, sym, ap, ◌∙◌}
-use mathlib.Core.Bool.{true, false}
 use mathlib.Core.List.{[], ◌∷◌}
-use mathlib.Core.Option.{Option, some}
-use Prim.Native.Nat.{ℕ, zero, suc, ◌+◌, ◌-◌, ◌≤◌, ◌<◌}
+use mathlib.Core.Option.{Option, none, some}
+use Rattle.std.specs.Prelude as P
+use Rattle.std.specs.Prelude.{Some, None, Result, Ok, Err, IsErr, ◌≢◌}
+use Prim.Native.Nat.{ℕ, zero, suc, ◌+◌, ◌-◌, ◌≤◌}
 use native.Mathlib.Omega.{arith}
 use borrow.Author.Tests.{ne_eqb}
 use lib.ListN.{length, take, drop}
 use lib.Seq.{drop-drop, take-nil, take-take}
-use Rattle.little_endian.specs.Little.{little}
 use Rattle.protobuf_format.specs.Reading.{Bytes, ◌>>=◌}
-use Rattle.protobuf_format.specs.Field as F
 use Rattle.protobuf_format.specs.Message.{put, merge}
 use Rattle.redirect_format.specs.Redirect.{handle_rows}
-use Rattle.protobuf_fields.specs.declared.Found.{Found}
-use Rattle.protobuf_fields.specs.declared.Found.TheVariants as found
-use Rattle.protobuf_reader.specs.Steps.{Steps, behind_of}
-use Rattle.protobuf_reader.specs.declared.Step.TheVariants as step
-use Rattle.protobuf_reader.proofs.Answers.{field-had}
+use Rattle.protobuf_fields.specs.declared.Malformed.{Malformed}
+use Rattle.protobuf_fields.specs.declared.Part.{Part}
+use Rattle.protobuf_fields.specs.declared.Field.{Field}
+use Rattle.protobuf_reader.specs.Steps.{Steps}
 use Rattle.redirect_reader.specs.Places.{PartFits}
-use Rattle.redirect_reader.specs.Fields.{held_in, handle_in, Holds, Handles, Nests}
-use Rattle.redirect_reader.specs.declared.Part.{Part}
-use Rattle.redirect_reader.specs.declared.Handle.{Handle}
-use Rattle.redirect_reader.specs.declared.Handle.TheVariants as handle
-use Rattle.redirect_reader.proofs.Merges.{found_fits, merge-end, merge_on, merge_less}
+use Rattle.redirect_reader.specs.Fields.{bytes_of, held_in, handle_in, Holds, Handles, Nests}
+use Rattle.redirect_reader.proofs.Merges.{is_bytes, no_bytes, found_fits, merge_end, merge_stop, merge_on}
 
 -- ---- a field
 
-skipped : (number : ℕ) (v : F.Value) (h : Bytes) → (number ≡ 1 → ⊥) → some h ≡ put handle_rows (F.field number v) h
-unfolding put
-skipped number v h l = rw (ne_eqb 1 number (λ e. l (sym e)))
-
-module _ (p : Part) (number : ℕ) (l : number ≡ 1 → ⊥) where
-  pub int_skipped : (n next : ℕ) → Holds (handle.Read p) p (found.Int number n next)
-  int_skipped n next = record { same = λ s old. skipped number (F.int n) (held_in s p old) l; fits = λ end a b. a }
-
-  pub eight_skipped : (start next : ℕ) → Holds (handle.Read p) p (found.Fixed64 number start next)
-  eight_skipped start next = record { same = λ s old. skipped number (F.fixed64 (little (take 8 (drop start s)))) (held_in s p old) l; fits = λ end a b. a }
-
-  pub bytes_skipped : (start len next : ℕ) → Holds (handle.Read p) p (found.Bytes number start len next)
-  bytes_skipped start len next = record { same = λ s old. skipped number (F.bytes (take len (drop start s))) (held_in s p old) l; fits = λ end a b. a }
-
-  pub four_skipped : (start next : ℕ) → Holds (handle.Read p) p (found.Fixed32 number start next)
-  four_skipped start next = record { same = λ s old. skipped number (F.fixed32 (little (take 4 (drop start s)))) (held_in s p old) l; fits = λ end a b. a }
-
-module _ (p : Part) where
-  pub int-refused : (n next : ℕ) → Holds handle.Malformed p (found.Int 1 n next)
+module _ (p : P.Option Part) (f : Field) where
+  pub skipped : f.number ≢ 1 → Holds (Ok p) p f
   unfolding put
-  int-refused n next = record { same = λ s old. refl; fits = λ end a b. tt }
+  skipped l = record { same = λ s old. rw (ne_eqb 1 f.number (λ e. l (sym e))); fits = λ end a b. a }
 
-  pub eight_refused : (start next : ℕ) → Holds handle.Malformed p (found.Fixed64 1 start next)
+  pub taken : (q : Part) → f.number ≡ 1 → Ok q ≡ bytes_of f.value → Holds (Ok (Some q)) p f
   unfolding put
-  eight_refused start next = record { same = λ s old. refl; fits = λ end a b. tt }
+  taken q n e = let v = is_bytes f.value q e in record { same = λ s old. rw (n, v); fits = λ end a b. rw v at b }
 
-  pub bytes_held : (start len next : ℕ) → Holds (handle.Read (record { has = true; start = start; len = len })) p (found.Bytes 1 start len next)
+  pub not_taken : (r : Result (P.Option Part) Malformed) (e : Malformed) → IsErr r → f.number ≡ 1 → Err e ≡ bytes_of f.value → Holds r p f
   unfolding put
-  bytes_held start len next = record { same = λ s old. refl; fits = λ end a b. omega (arith, b.0, b.1) }
-
-  pub four-refused : (start next : ℕ) → Holds handle.Malformed p (found.Fixed32 1 start next)
-  unfolding put
-  four-refused start next = record { same = λ s old. refl; fits = λ end a b. tt }
-
-  pub malformed_held : Holds handle.Malformed p found.Malformed
-  malformed_held = record { same = λ s old. refl; fits = λ end a b. tt }
+  not_taken (Ok x) e i n h = cc
+  not_taken (Err x) e i n h = record { same = λ s old. rw n (no_bytes f.value e (λ b h. some b) s (held_in s p old) h); fits = λ end a b. tt }
 
 -- ---- the loop
 
 -- what is left, merged into what is held, is the message
-pub record Holding (s : Bytes) (p : Part) (at : ℕ) : Type 0 where
+pub record Holding (s : Bytes) (p : P.Option Part) (at : ℕ) : Type 0 where
   pub fits : PartFits p (length s)
   pub left : (old : Bytes) → merge handle_rows (drop at s) (held_in s p old) ≡ merge handle_rows s old
 
-pub holding-start : (s : Bytes) → Holding s (record { has = false; start = 0; len = 0 }) 0
-holding-start s = record { fits = omega arith; left = λ old. refl }
+pub holding_start : (s : Bytes) → Holding s None 0
+holding_start s = record { fits = tt; left = λ old. refl }
 
-module _ {s : Bytes} {p : Part} {at : ℕ} (inv : Holding s p at) where
-  pub holding-end : Steps step.End s at → Handles (handle.Read p) s
-  holding-end t = record { same = λ old. sym (merge-end handle_rows s at (held_in s p old) t) ∙ inv.left old; fits = inv.fits }
+handles_none : (r : Result (P.Option Part) Malformed) (s : Bytes) → IsErr r → ((old : Bytes) → none ≡ merge handle_rows s old) → Handles r s
+handles_none (Ok x) s i h = cc
+handles_none (Err x) s i h = record { same = h; fits = tt }
 
-  module _ {f : Found} {j : ℕ} (t : Steps (step.Field f) s at) (e : j ≡ behind_of s at) where
-    turned : (r : Handle) → Holds r p f → (old : Bytes) → (handle_in r s old >>= λ h. merge handle_rows (drop j s) h) ≡ merge handle_rows s old
+module _ {s : Bytes} {p : P.Option Part} {at : ℕ} (inv : Holding s p at) where
+  pub holding_end : Steps (Ok None) s at → Handles (Ok p) s
+  holding_end t = record { same = λ old. sym (merge_end handle_rows s at (held_in s p old) t) ∙ inv.left old; fits = inv.fits }
+
+  pub holding_malformed : (r : Result (P.Option Part) Malformed) (e : Malformed) → IsErr r → Steps (Err e) s at → Handles r s
+  holding_malformed r e i t = handles_none r s i (λ old. sym (merge_stop handle_rows s at (held_in s p old) e t) ∙ inv.left old)
+
+  module _ {f : Field} (t : Steps (Ok (Some f)) s at) where
+    turned : (r : Result (P.Option Part) Malformed) → Holds r p f → (old : Bytes)
+        → (handle_in r s old >>= λ h. merge handle_rows (drop f.next s) h) ≡ merge handle_rows s old
     turned r d old =
-        ap (λ (o : Option Bytes). o >>= λ h. merge handle_rows (drop j s) h) (d.same s old) ∙ merge_on handle_rows s at (held_in s p old) f j t e ∙ inv.left old
+        ap (λ (o : Option Bytes). o >>= λ h. merge handle_rows (drop f.next s) h) (d.same s old)
+        ∙ sym (merge_on handle_rows s at (held_in s p old) f t)
+        ∙ inv.left old
 
-    pub holding_stop : Holds handle.Malformed p f → Handles handle.Malformed s
-    holding_stop d = record { same = turned handle.Malformed d; fits = tt }
+    pub holding_stop : (r : Result (P.Option Part) Malformed) (e : Malformed) → IsErr r → Holds (Err e) p f → Handles r s
+    holding_stop r e i d = handles_none r s i (turned (Err e) d)
 
-    pub holding_on : {q : Part} → Holds (handle.Read q) p f → Holding s q j
-    holding_on {q} d =
-        record { fits = d.fits (length s) inv.fits (found_fits f at (length s) (field-had s at f t).ahead); left = turned (handle.Read q) d }
-
-    pub holding_less : {q : Part} → Holds (handle.Read q) p f → length s - j < length s - at
-    holding_less {q} d = merge_less handle_rows s at (held_in s p []) f j t e (held_in s q []) (d.same s [])
+    pub holding_on : {q : P.Option Part} → Holds (Ok q) p f → Holding s q f.next
+    holding_on {q} d = record { fits = d.fits (length s) inv.fits (found_fits s at f t); left = turned (Ok q) d }
 
 -- ---- a part of a part
 
@@ -115,13 +93,14 @@ inner s i l p q h =
     ∙ take-take q (l - p) (drop p (drop i s)) f
     ∙ ap (λ (x : Bytes). take q x) (drop-drop p i s))
 
-module _ (p old : Part) (start len : ℕ) where
-  pub nested_own : p.has ≡ true → PartFits p len → Nests (record { has = true; start = start + p.start; len = p.len }) p old start len
-  nested_own h f =
-      record { same = λ s. rw h (ap (λ (x : Bytes). some x) (inner s start len p.start p.len f)); fits = λ end g o. omega (arith, f) }
+module _ (message : Part) where
+  pub nested_own : (p : Part) (old : P.Option Part) → PartFits (Some p) message.len
+      → Nests (Some (record { start = message.start + p.start; len = p.len })) (Some p) old message
+  nested_own p old f =
+      record { same = λ s. ap (λ (x : Bytes). some x) (inner s message.start message.len p.start p.len f); fits = λ end g o. omega (arith, f, g) }
 
-  pub nested_old : p.has ≡ false → old.has ≡ true → Nests old p old start len
-  nested_old h g = record { same = λ s. rw (h, g); fits = λ end f o. o }
+  pub nested_old : (o : Part) → Nests (Some o) None (Some o) message
+  nested_old o = record { same = λ s. refl; fits = λ end f g. g }
 
-  pub nested_none : p.has ≡ false → old.has ≡ false → Nests (record { has = true; start = 0; len = 0 }) p old start len
-  nested_none h g = record { same = λ s. rw (h, g); fits = λ end f o. omega arith }
+  pub nested_none : Nests (Some (record { start = 0; len = 0 })) None None message
+  nested_none = record { same = λ s. refl; fits = λ end f g. omega arith }

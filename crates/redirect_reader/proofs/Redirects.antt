@@ -1,125 +1,99 @@
 -- The redirect, a field at a time.
 -- Assumes nothing.
 use mathlib.Core.Path.{◌≡◌, refl, sym, ap, ◌∙◌}
-use mathlib.Core.Bool.{Bool, true, false}
+use mathlib.Core.Bool.{true, false}
 use mathlib.Core.List.{[]}
 use mathlib.Core.Option.{Option, none, some, get_or}
-use Prim.Native.Nat.{ℕ, ◌+◌, ◌-◌, ◌≤◌, ◌<◌}
+use Rattle.std.specs.Prelude as P
+use Rattle.std.specs.Prelude.{Some, None, Result, Ok, Err, IsErr, ◌≢◌}
+use Prim.Native.Nat.{ℕ}
 use native.Mathlib.Omega.{arith}
 use borrow.Author.Tests.{ne_eqb}
-use lib.ListN.{length, take, drop, length-drop}
+use lib.ListN.{length, drop, length-drop}
 use lib.Seq.{length-take-le}
 use Rattle.protobuf_format.specs.Reading.{Bytes, ◌>>=◌}
-use Rattle.protobuf_format.specs.Field as F
 use Rattle.protobuf_format.specs.Message.{put, merge}
 use Rattle.utf8.specs.Utf8.{utf8}
-use Rattle.redirect_format.specs.Redirect.{Redirect, redirect, set_token, set_handle, redirect_rows, read_redirect}
-use Rattle.protobuf_fields.specs.declared.Found.{Found}
-use Rattle.protobuf_reader.specs.Steps.{Steps, behind_of}
-use Rattle.protobuf_reader.specs.declared.Step.TheVariants as step
-use Rattle.protobuf_reader.proofs.Answers.{field-had}
-use Rattle.redirect_reader.specs.Places.{part_in, seen_in, SeenFits, answer_in, Answers}
-use Rattle.redirect_reader.specs.Fields.{put_found, FoundFits, HandleFits, Handles, Nests, Puts, Skips}
-use Rattle.redirect_reader.specs.declared.Part.{Part}
-use Rattle.redirect_reader.specs.declared.Handle.{Handle}
-use Rattle.redirect_reader.specs.declared.Handle.TheVariants as handle
+use Rattle.redirect_format.specs.Redirect.{Redirect, redirect, set_token, set_handle, set_generation, redirect_rows, read_redirect}
+use Rattle.protobuf_fields.specs.Found.{bytes_in, field_in}
+use Rattle.protobuf_fields.specs.declared.Malformed.{Malformed}
+use Rattle.protobuf_fields.specs.declared.Part.{Part}
+use Rattle.protobuf_fields.specs.declared.Field.{Field}
+use Rattle.protobuf_reader.specs.Steps.{Steps}
+use Rattle.redirect_reader.specs.Places.{part_in, seen_in, PartFits, SeenFits, answer_in, Answers}
+use Rattle.redirect_reader.specs.Fields.{int_of, bytes_of, HandleFits, Handles, Nests}
 use Rattle.redirect_reader.specs.declared.Seen.{Seen}
-use Rattle.redirect_reader.specs.declared.Answer.{Answer}
-use Rattle.redirect_reader.specs.declared.Answer.TheVariants as answer
-use Rattle.redirect_reader.proofs.Merges.{found_fits, merge-end, merge_on, merge_less}
+use Rattle.redirect_reader.proofs.Merges.{is_int, is_bytes, no_int, no_bytes, merge_end, merge_stop, merge_on}
 
-abbrev seen_of : Part → Part → Bool → ℕ → Seen
-seen_of t h k g = record { token = t; handle = h; known = k; generation = g }
+abbrev seen_of : P.Option Part → P.Option Part → P.Option ℕ → Seen
+seen_of t h g = record { token = t; handle = h; generation = g }
 
--- ---- a field of no row
+pub refused : (r : Result Seen Malformed) (s : Bytes) (o : Option Redirect) → IsErr r → none ≡ o → Answers r s o
+refused (Ok x) s o i e = cc
+refused (Err x) s o i e = record { same = e; fits = tt }
 
-skipped : (number : ℕ) (v : F.Value) (m : Redirect) → (number ≡ 1 → ⊥) → (number ≡ 2 → ⊥) → (number ≡ 3 → ⊥)
-    → some m ≡ put redirect_rows (F.field number v) m
-unfolding put redirect_rows
-skipped number v m a b c = rw (ne_eqb 1 number (λ e. a (sym e)), ne_eqb 2 number (λ e. b (sym e)), ne_eqb 3 number (λ e. c (sym e)))
+-- ---- a field, by its number and wire type
 
-module _ (m : Seen) (number : ℕ) (a : number ≡ 1 → ⊥) (b : number ≡ 2 → ⊥) (c : number ≡ 3 → ⊥) where
-  pub others : (v : F.Value) → Puts (answer.Read m) m (F.field number v)
-  others v = record { on = λ s f. record { same = skipped number v (seen_in s m) a b c; fits = f } }
-
-  pub fixed_skips : Skips (answer.Read m) m number
-  fixed_skips = record { eight = λ n. others (F.fixed64 n); four = λ n. others (F.fixed32 n) }
-
--- ---- a field of a row
-
-module _ (m : Seen) where
-  refused : (number : ℕ) (v : F.Value) → ((r : Redirect) → none ≡ put redirect_rows (F.field number v) r) → Puts answer.Malformed m (F.field number v)
-  refused number v e = record { on = λ s f. record { same = e (seen_in s m); fits = tt } }
-
-  pub int_1 : (n : ℕ) → Puts answer.Malformed m (F.field 1 (F.int n))
+module _ (s : Bytes) (m : Seen) (f : Field) (r : Result Seen Malformed) where
+  pub token_field : (p : Part) → f.number ≡ 1 → Ok p ≡ bytes_of f.value
+      → Answers r s (set_token (bytes_in s p) (seen_in s m)) → Answers r s (put redirect_rows (field_in f s) (seen_in s m))
   unfolding put redirect_rows
-  int_1 n = refused 1 (F.int n) (λ r. refl)
+  token_field p n e a = rw (n, is_bytes f.value p e) a
 
-  pub int_2 : (n : ℕ) → Puts answer.Malformed m (F.field 2 (F.int n))
+  pub handle_field : (p : Part) → f.number ≡ 2 → Ok p ≡ bytes_of f.value
+      → Answers r s (set_handle (bytes_in s p) (seen_in s m)) → Answers r s (put redirect_rows (field_in f s) (seen_in s m))
   unfolding put redirect_rows
-  int_2 n = refused 2 (F.int n) (λ r. refl)
+  handle_field p n e a = rw (n, is_bytes f.value p e) a
 
-  pub int_3 : (n : ℕ) → Puts (answer.Read (seen_of m.token m.handle true n)) m (F.field 3 (F.int n))
+  pub token_malformed : (e : Malformed) → IsErr r → f.number ≡ 1 → Err e ≡ bytes_of f.value → Answers r s (put redirect_rows (field_in f s) (seen_in s m))
   unfolding put redirect_rows
-  int_3 n = record { on = λ s f. record { same = refl; fits = f } }
+  token_malformed e i n h = refused r s _ i (rw n (no_bytes f.value e set_token s (seen_in s m) h))
 
-  pub bytes_3 : (b : Bytes) → Puts answer.Malformed m (F.field 3 (F.bytes b))
+  pub handle_malformed : (e : Malformed) → IsErr r → f.number ≡ 2 → Err e ≡ bytes_of f.value → Answers r s (put redirect_rows (field_in f s) (seen_in s m))
   unfolding put redirect_rows
-  bytes_3 b = refused 3 (F.bytes b) (λ r. refl)
+  handle_malformed e i n h = refused r s _ i (rw n (no_bytes f.value e set_handle s (seen_in s m) h))
 
-  pub fixed_1 : Skips answer.Malformed m 1
+  pub generation_malformed : (e : Malformed) → IsErr r → f.number ≡ 3 → Err e ≡ int_of f.value → Answers r s (put redirect_rows (field_in f s) (seen_in s m))
   unfolding put redirect_rows
-  fixed_1 = record { eight = λ n. refused 1 (F.fixed64 n) (λ r. refl); four = λ n. refused 1 (F.fixed32 n) (λ r. refl) }
+  generation_malformed e i n h = refused r s _ i (rw n (no_int f.value e set_generation s (seen_in s m) h))
 
-  pub fixed_2 : Skips answer.Malformed m 2
+module _ (s : Bytes) (m : Seen) (f : Field) where
+  pub generation_field : (g : ℕ) → f.number ≡ 3 → Ok g ≡ int_of f.value → SeenFits m (length s)
+      → Answers (Ok (seen_of m.token m.handle (Some g))) s (put redirect_rows (field_in f s) (seen_in s m))
   unfolding put redirect_rows
-  fixed_2 = record { eight = λ n. refused 2 (F.fixed64 n) (λ r. refl); four = λ n. refused 2 (F.fixed32 n) (λ r. refl) }
+  generation_field g n e h = record { same = rw (n, is_int f.value g e); fits = h }
 
-  pub fixed_3 : Skips answer.Malformed m 3
+  pub other_field : f.number ≢ 1 → f.number ≢ 2 → f.number ≢ 3 → SeenFits m (length s) → Answers (Ok m) s (put redirect_rows (field_in f s) (seen_in s m))
   unfolding put redirect_rows
-  fixed_3 = record { eight = λ n. refused 3 (F.fixed64 n) (λ r. refl); four = λ n. refused 3 (F.fixed32 n) (λ r. refl) }
+  other_field a b c h =
+      record { same = rw (ne_eqb 1 f.number (λ e. a (sym e)), ne_eqb 2 f.number (λ e. b (sym e)), ne_eqb 3 f.number (λ e. c (sym e))); fits = h }
 
 -- ---- a field of bytes, in their place
 
-module _ (s : Bytes) (m : Seen) (start len next : ℕ) (a : start + len ≡ next) (b : next ≤ length s) (f : SeenFits m (length s)) where
-  long : next - start ≡ len
-  long = omega (arith, a)
+module _ (s : Bytes) (m : Seen) (p : Part) where
+  pub token_put : true ≡ utf8 (bytes_in s p) → PartFits (Some p) (length s) → SeenFits m (length s)
+      → Answers (Ok (seen_of (Some p) m.handle m.generation)) s (set_token (bytes_in s p) (seen_in s m))
+  token_put u h f = record { same = rw (← u); fits = (h, f.1) }
 
-  module _ (t : Bool) (u : t ≡ utf8 (take (next - start) (drop start s))) where
-    text : utf8 (take len (drop start s)) ≡ t
-    text = sym (rw long at u)
+  pub token_refused : false ≡ utf8 (bytes_in s p) → Answers (Err (record {})) s (set_token (bytes_in s p) (seen_in s m))
+  token_refused u = record { same = rw (← u); fits = tt }
 
-    pub token-put : t ≡ true
-        → Answers (answer.Read (seen_of (record { has = true; start = start; len = len }) m.handle m.known m.generation)) s
-        (set_token (take len (drop start s)) (seen_in s m))
-    token-put e = record { same = rw (text, e); fits = (omega (arith, a, b), f.1) }
+  pub handle_fits : (g : Result (P.Option Part) Malformed) → PartFits (Some p) (length s) → Handles g (bytes_in s p) → HandleFits g p.len
+  handle_fits g h f = rw (length-take-le p.len (drop p.start s) (omega (arith, h, length-drop p.start s))) at f.fits
 
-    pub token-refused : t ≡ false → Answers answer.Malformed s (set_token (take len (drop start s)) (seen_in s m))
-    token-refused e = record { same = rw (text, e); fits = tt }
+  pub handle_none : (r : Result Seen Malformed) (e : Malformed) → IsErr r → Handles (Err e) (bytes_in s p)
+      → Answers r s (set_handle (bytes_in s p) (seen_in s m))
+  handle_none r e i h =
+      refused r s _ i
+      (ap (λ (o : Option Bytes). o >>= λ x. some (redirect (part_in s m.token) (some x) (seen_in s m).generation)) (h.same (get_or (part_in s m.handle) [])))
 
-  module _ (g : Handle) (h : Handles g (take (next - start) (drop start s))) where
-    handled : Handles g (take len (drop start s))
-    handled = rw long at h
-
-    pub handle_fits : HandleFits g len
-    handle_fits = rw (length-take-le len (drop start s) (omega (arith, a, b, length-drop start s))) at handled.fits
-
-  pub handle-refused : Handles handle.Malformed (take (next - start) (drop start s)) → Answers answer.Malformed s (set_handle (take len (drop start s)) (seen_in s m))
-  handle-refused h =
-      record {
-        same = ap (λ (o : Option Bytes). o >>= λ x. some (redirect (part_in s m.token) (some x) (seen_in s m).generation))
-            ((handled handle.Malformed h).same (get_or (part_in s m.handle) []));
-        fits = tt;
-      }
-
-  pub handle-put : (p r : Part) → Handles (handle.Read p) (take (next - start) (drop start s)) → Nests r p m.handle start len
-      → Answers (answer.Read (seen_of m.token r m.known m.generation)) s (set_handle (take len (drop start s)) (seen_in s m))
-  handle-put p r h n = record {
+  pub handle_put : (q r : P.Option Part) → PartFits (Some p) (length s) → SeenFits m (length s) → Handles (Ok q) (bytes_in s p) → Nests r q m.handle p
+      → Answers (Ok (seen_of m.token r m.generation)) s (set_handle (bytes_in s p) (seen_in s m))
+  handle_put q r f g h n = record {
     same =
         ap (λ (o : Option Bytes). some (redirect (part_in s m.token) o (seen_in s m).generation)) (n.same s)
-        ∙ ap (λ (o : Option Bytes). o >>= λ x. some (redirect (part_in s m.token) (some x) (seen_in s m).generation))
-        ((handled (handle.Read p) h).same (get_or (part_in s m.handle) []));
-    fits = (f.0, n.fits (length s) (omega (arith, a, b)) f.1);
+        ∙ ap (λ (o : Option Bytes). o >>= λ x. some (redirect (part_in s m.token) (some x) (seen_in s m).generation)) (h.same (get_or (part_in s m.handle) []));
+    fits = (g.0, n.fits (length s) f g.1);
   }
 
 -- ---- the loop
@@ -129,29 +103,28 @@ pub record Going (s : Bytes) (m : Seen) (at : ℕ) : Type 0 where
   pub fits : SeenFits m (length s)
   pub left : merge redirect_rows (drop at s) (seen_in s m) ≡ read_redirect s
 
-pub going_start : (s : Bytes)
-    → Going s (seen_of (record { has = false; start = 0; len = 0 }) (record { has = false; start = 0; len = 0 }) false 0) 0
+pub going_start : (s : Bytes) → Going s (seen_of None None None) 0
 unfolding read_redirect
-going_start s = record { fits = (omega arith, omega arith); left = refl }
+going_start s = record { fits = (tt, tt); left = refl }
 
 module _ {s : Bytes} {m : Seen} {at : ℕ} (inv : Going s m at) where
-  pub going_end : Steps step.End s at → Answers (answer.Read m) s (read_redirect s)
-  going_end t = record { same = sym (merge-end redirect_rows s at (seen_in s m) t) ∙ inv.left; fits = inv.fits }
+  pub going_end : Steps (Ok None) s at → Answers (Ok m) s (read_redirect s)
+  going_end t = record { same = sym (merge_end redirect_rows s at (seen_in s m) t) ∙ inv.left; fits = inv.fits }
 
-  module _ {f : Found} (t : Steps (step.Field f) s at) where
-    pub going_fits : FoundFits f (length s)
-    going_fits = found_fits f at (length s) (field-had s at f t).ahead
+  pub going_malformed : (r : Result Seen Malformed) (e : Malformed) → IsErr r → Steps (Err e) s at → Answers r s (read_redirect s)
+  going_malformed r e i t = refused r s _ i (sym (merge_stop redirect_rows s at (seen_in s m) e t) ∙ inv.left)
 
-    module _ {j : ℕ} (e : j ≡ behind_of s at) where
-      turned : (r : Answer) → Answers r s (put_found redirect_rows f s (seen_in s m)) → (answer_in r s >>= λ n. merge redirect_rows (drop j s) n) ≡ read_redirect s
-      turned r d =
-          ap (λ (o : Option Redirect). o >>= λ n. merge redirect_rows (drop j s) n) d.same ∙ merge_on redirect_rows s at (seen_in s m) f j t e ∙ inv.left
+  module _ {f : Field} (t : Steps (Ok (Some f)) s at) where
+    turned : (r : Result Seen Malformed) → Answers r s (put redirect_rows (field_in f s) (seen_in s m))
+        → (answer_in r s >>= λ n. merge redirect_rows (drop f.next s) n) ≡ read_redirect s
+    turned r d =
+        ap (λ (o : Option Redirect). o >>= λ n. merge redirect_rows (drop f.next s) n) d.same
+        ∙ sym (merge_on redirect_rows s at (seen_in s m) f t)
+        ∙ inv.left
 
-      pub going_stop : Answers answer.Malformed s (put_found redirect_rows f s (seen_in s m)) → Answers answer.Malformed s (read_redirect s)
-      going_stop d = record { same = turned answer.Malformed d; fits = tt }
+    pub going_stop : (r : Result Seen Malformed) (e : Malformed) → IsErr r → Answers (Err e) s (put redirect_rows (field_in f s) (seen_in s m))
+        → Answers r s (read_redirect s)
+    going_stop r e i d = refused r s _ i (turned (Err e) d)
 
-      pub going_on : {n : Seen} → Answers (answer.Read n) s (put_found redirect_rows f s (seen_in s m)) → Going s n j
-      going_on {n} d = record { fits = d.fits; left = turned (answer.Read n) d }
-
-      pub going_less : {n : Seen} → Answers (answer.Read n) s (put_found redirect_rows f s (seen_in s m)) → length s - j < length s - at
-      going_less {n} d = merge_less redirect_rows s at (seen_in s m) f j t e (seen_in s n) d.same
+    pub going_on : {n : Seen} → Answers (Ok n) s (put redirect_rows (field_in f s) (seen_in s m)) → Going s n f.next
+    going_on {n} d = record { fits = d.fits; left = turned (Ok n) d }

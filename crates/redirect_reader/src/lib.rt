@@ -1,15 +1,15 @@
 // Reads a redirect from the caller's bytes, in place: an answer holds places of the slice, no bytes.
 #![tactic(auto)]
 
-ghost use Rattle.std.specs.Prelude.{◌≡◌, ◌+◌, ◌≤◌, length, take, drop};
-ghost use Rattle.protobuf_format.specs.Field.{int, bytes, field};
+ghost use Rattle.std.specs.Prelude.{◌≡◌, ◌+◌, ◌<◌, ◌^◌, length, Some};
 ghost use Rattle.protobuf_format.specs.Message.{put};
+ghost use Rattle.protobuf_fields.specs.Found.{bytes_in, field_in};
 ghost use Rattle.redirect_format.specs.Redirect.{set_token, set_handle, redirect_rows, read_redirect};
 ghost use Rattle.redirect_reader.specs.Places.{PartFits, seen_in, SeenFits, Answers};
-ghost use Rattle.redirect_reader.specs.Fields.{Handles, Holds, Nests, FoundFits, Puts, Skips, put_found};
+ghost use Rattle.redirect_reader.specs.Fields.{int_of, bytes_of, Handles, Holds, Nests, ValueFits};
 
-use protobuf_fields::Found;
-use protobuf_reader::{Step, step_at};
+use protobuf_fields::{Field, Malformed, Part, Value};
+use protobuf_reader::step_at;
 use utf8::is_utf8;
 
 // Fields of the redirect.
@@ -22,267 +22,132 @@ const GENERATION: u64 = 3;
 // The one field of the handle.
 const HANDLE_BYTES: u64 = 1;
 
-// Where some bytes start and how many they are, if there are any.
-#[derive(Clone, Copy)]
-pub struct Part {
-    pub has: bool,
-    pub start: usize,
-    pub len: usize,
-}
-
-// The bytes of a handle's message, which are absent where it lacks its field.
-#[derive(Drop)]
-enum Handle {
-    Malformed,
-    Read(Part),
-}
-
-// A redirect's token and handle, and its generation as 64 bits, if it is known.
+// Where a redirect's token and handle lie, and its generation as 64 bits.
 #[derive(Clone, Copy)]
 pub struct Seen {
-    pub token: Part,
-    pub handle: Part,
-    pub known: bool,
-    pub generation: u64,
+    pub token: Option<Part>,
+    pub handle: Option<Part>,
+    pub generation: Option<u64>,
 }
 
-#[derive(Clone, Copy)]
-pub enum Answer {
-    Malformed,
-    Read(Seen),
-}
-
-// A field of the handle, behind the part that was read before it.
-fn hold(p: Part, found: Found) -> Handle
-    ensures { Holds result p found }
+// A known field's value: another wire type than its own is malformed.
+fn int_of(v: Value) -> Result<u64, Malformed>
+    ensures { result ≡ int_of v }
 {
-    match found {
-        Found::Malformed => Handle::Malformed,
-        Found::Int(number, _, _) => {
-            if number == HANDLE_BYTES {
-                return Handle::Malformed;
-            }
-            Handle::Read(p)
-        }
-        Found::Fixed64(number, _, _) => {
-            if number == HANDLE_BYTES {
-                return Handle::Malformed;
-            }
-            Handle::Read(p)
-        }
-        Found::Bytes(number, start, len, _) => {
-            if number == HANDLE_BYTES {
-                return Handle::Read(Part {
-                    has: true,
-                    start,
-                    len,
-                });
-            }
-            Handle::Read(p)
-        }
-        Found::Fixed32(number, _, _) => {
-            if number == HANDLE_BYTES {
-                return Handle::Malformed;
-            }
-            Handle::Read(p)
-        }
+    match v {
+        Value::Int(n) => Ok(n),
+        _ => Err(Malformed),
     }
 }
 
-// The handle that the bytes are, whatever was there before.
-fn read_handle(s: &[u8]) -> Handle
+fn bytes_of(v: Value) -> Result<Part, Malformed>
+    ensures { result ≡ bytes_of v }
+{
+    match v {
+        Value::Bytes(part) => Ok(part),
+        _ => Err(Malformed),
+    }
+}
+
+// A field of the handle, behind the bytes that were read before it.
+#[tactic(auto, using(crate::proofs::Handles::skipped, crate::proofs::Handles::taken))]
+fn hold(p: Option<Part>, field: Field) -> Result<Option<Part>, Malformed>
+    ensures { Holds result p field }
+{
+    if field.number == HANDLE_BYTES {
+        Ok(Some(bytes_of(field.value)?))
+    } else {
+        Ok(p)
+    }
+}
+
+// The bytes of the handle that the slice is, whatever was there before; none where it lacks its field.
+#[tactic(auto, using(crate::proofs::Handles::holding_start, crate::proofs::Handles::holding_end, crate::proofs::Handles::holding_on, crate::proofs::Merges::field_less))]
+fn read_handle(s: &[u8]) -> Result<Option<Part>, Malformed>
     ensures { Handles result s.now }
 {
-    let mut p = Part {
-        has: false,
-        start: 0,
-        len: 0,
-    };
+    let mut p = None;
     let mut at = 0;
-    loop {
-        let stepped = step_at(s, at);
-        let step = stepped.step;
-        let Step::Field(found) = step else {
-            return Handle::Read(p);
-        };
-        let held = hold(p, found);
-        let Handle::Read(q) = held else {
-            return Handle::Malformed;
-        };
-        p = q;
-        at = stepped.at;
+    while let Some(field) = step_at(s, at)? {
+        p = hold(p, field)?;
+        at = field.next;
     }
+    Ok(p)
 }
 
-// The handle behind a message of len bytes at start, whose own part is p: that, or else the part before it, or else no bytes.
-fn nested(p: Part, old: Part, start: usize, len: usize, next: usize) -> Part
-    requires { (start + len ≡ next) × PartFits p len }
-    ensures { Nests result p old start len }
+// The handle behind a message, whose own bytes are p: those, or else the ones before it, or else no bytes.
+#[tactic(auto, using(crate::proofs::Handles::nested_own, crate::proofs::Handles::nested_old, crate::proofs::Handles::nested_none))]
+fn nested(p: Option<Part>, old: Option<Part>, message: Part) -> Option<Part>
+    requires { PartFits p message.len × (message.start + message.len < 2 ^ 64) }
+    ensures { Nests result p old message }
 {
-    let has = p.has;
-    let from = p.start;
-    let count = p.len;
-    if has {
-        return Part {
-            has: true,
-            start: start + from,
-            len: count,
-        };
+    match (p, old) {
+        (Some(p), _) => Some(Part {
+            start: message.start + p.start,
+            len: p.len,
+        }),
+        (None, Some(_)) => old,
+        (None, None) => Some(Part { start: 0, len: 0 }),
     }
-    let before = old.has;
-    if before {
-        return old;
-    }
-    Part {
-        has: true,
-        start: 0,
-        len: 0,
-    }
-}
-
-// A field that is a varint.
-fn put_int(m: Seen, number: u64, n: u64) -> Answer
-    ensures { Puts result m (field number (int n)) }
-{
-    if number == TOKEN {
-        return Answer::Malformed;
-    }
-    if number == HANDLE {
-        return Answer::Malformed;
-    }
-    if number == GENERATION {
-        let token = m.token;
-        let handle = m.handle;
-        return Answer::Read(Seen {
-            token,
-            handle,
-            known: true,
-            generation: n,
-        });
-    }
-    Answer::Read(m)
-}
-
-// A field of eight or four bytes: none of ours.
-fn put_fixed(m: Seen, number: u64) -> Answer
-    ensures { Skips result m number }
-{
-    if number == TOKEN {
-        return Answer::Malformed;
-    }
-    if number == HANDLE {
-        return Answer::Malformed;
-    }
-    if number == GENERATION {
-        return Answer::Malformed;
-    }
-    Answer::Read(m)
 }
 
 // The token, which is UTF-8.
-fn put_token(s: &[u8], m: Seen, start: usize, len: usize, next: usize) -> Answer
-    requires { (start + len ≡ next) × (next ≤ length s.now) × SeenFits m (length s.now) }
-    ensures { Answers result s.now (set_token (take len (drop start s.now)) (seen_in s.now m)) }
+#[tactic(auto, using(crate::proofs::Redirects::token_put, crate::proofs::Redirects::token_refused))]
+fn put_token(s: &[u8], m: Seen, part: Part) -> Result<Seen, Malformed>
+    requires { PartFits (Some part) (length s.now) × SeenFits m (length s.now) }
+    ensures { Answers result s.now (set_token (bytes_in s.now part) (seen_in s.now m)) }
 {
-    let text = is_utf8(&s[start..next]);
-    if text {
-        let handle = m.handle;
-        let known = m.known;
-        let generation = m.generation;
-        return Answer::Read(Seen {
-            token: Part {
-                has: true,
-                start,
-                len,
-            },
-            handle,
-            known,
-            generation,
-        });
+    if !is_utf8(part.of(s)) {
+        return Err(Malformed);
     }
-    Answer::Malformed
-}
-
-// The handle, merged into the one before it.
-fn put_handle(s: &[u8], m: Seen, start: usize, len: usize, next: usize) -> Answer
-    requires { (start + len ≡ next) × (next ≤ length s.now) × SeenFits m (length s.now) }
-    ensures { Answers result s.now (set_handle (take len (drop start s.now)) (seen_in s.now m)) }
-{
-    let got = read_handle(&s[start..next]);
-    let Handle::Read(p) = got else {
-        return Answer::Malformed;
-    };
-    let token = m.token;
-    let old = m.handle;
-    let known = m.known;
-    let generation = m.generation;
-    let handle = nested(p, old, start, len, next);
-    Answer::Read(Seen {
-        token,
-        handle,
-        known,
-        generation,
+    Ok(Seen {
+        token: Some(part),
+        ..m
     })
 }
 
-// A field of bytes.
-fn put_bytes(s: &[u8], m: Seen, number: u64, start: usize, len: usize, next: usize) -> Answer
-    requires { (start + len ≡ next) × (next ≤ length s.now) × SeenFits m (length s.now) }
-    ensures { Answers result s.now (put redirect_rows (field number (bytes (take len (drop start s.now)))) (seen_in s.now m)) }
+// The handle, merged into the one before it.
+#[tactic(auto, using(crate::proofs::Redirects::handle_fits, crate::proofs::Redirects::handle_put))]
+fn put_handle(s: &[u8], m: Seen, part: Part) -> Result<Seen, Malformed>
+    requires { PartFits (Some part) (length s.now) × SeenFits m (length s.now) }
+    ensures { Answers result s.now (set_handle (bytes_in s.now part) (seen_in s.now m)) }
 {
-    if number == TOKEN {
-        return put_token(s, m, start, len, next);
-    }
-    if number == HANDLE {
-        return put_handle(s, m, start, len, next);
-    }
-    if number == GENERATION {
-        return Answer::Malformed;
-    }
-    Answer::Read(m)
+    let p = read_handle(part.of(s))?;
+    let handle = nested(p, m.handle, part);
+    Ok(Seen { handle, ..m })
 }
 
-// A field, by its wire type.
-fn put_field(s: &[u8], m: Seen, found: Found) -> Answer
-    requires { FoundFits found (length s.now) × SeenFits m (length s.now) }
-    ensures { Answers result s.now (put_found redirect_rows found s.now (seen_in s.now m)) }
+// A field, by its number and wire type.
+#[tactic(auto, using(crate::proofs::Redirects::token_field, crate::proofs::Redirects::handle_field, crate::proofs::Redirects::generation_field, crate::proofs::Redirects::other_field))]
+fn put_field(s: &[u8], m: Seen, field: Field) -> Result<Seen, Malformed>
+    requires { ValueFits field.value (length s.now) × SeenFits m (length s.now) }
+    ensures { Answers result s.now (put redirect_rows (field_in field s.now) (seen_in s.now m)) }
 {
-    match found {
-        Found::Malformed => Answer::Malformed,
-        Found::Int(number, n, _) => put_int(m, number, n),
-        Found::Fixed64(number, _, _) => put_fixed(m, number),
-        Found::Bytes(number, start, len, next) => put_bytes(s, m, number, start, len, next),
-        Found::Fixed32(number, _, _) => put_fixed(m, number),
+    match field.number {
+        TOKEN => put_token(s, m, bytes_of(field.value)?),
+        HANDLE => put_handle(s, m, bytes_of(field.value)?),
+        GENERATION => Ok(Seen {
+            generation: Some(int_of(field.value)?),
+            ..m
+        }),
+        _ => Ok(m),
     }
 }
 
 // The redirect that the bytes are, whatever they are.
-pub fn read_redirect(s: &[u8]) -> Answer
+#[tactic(auto, using(crate::proofs::Redirects::going_start, crate::proofs::Redirects::going_end, crate::proofs::Redirects::going_on, crate::proofs::Merges::found_fits, crate::proofs::Merges::field_less))]
+pub fn read_redirect(s: &[u8]) -> Result<Seen, Malformed>
     ensures { Answers result s.now (read_redirect s.now) }
 {
-    let none = Part {
-        has: false,
-        start: 0,
-        len: 0,
-    };
     let mut m = Seen {
-        token: none,
-        handle: none,
-        known: false,
-        generation: 0,
+        token: None,
+        handle: None,
+        generation: None,
     };
     let mut at = 0;
-    loop {
-        let stepped = step_at(s, at);
-        let step = stepped.step;
-        let Step::Field(found) = step else {
-            return Answer::Read(m);
-        };
-        let answer = put_field(s, m, found);
-        let Answer::Read(n) = answer else {
-            return Answer::Malformed;
-        };
-        m = n;
-        at = stepped.at;
+    while let Some(field) = step_at(s, at)? {
+        m = put_field(s, m, field)?;
+        at = field.next;
     }
+    Ok(m)
 }

@@ -6,7 +6,6 @@ use native.Mathlib.Numerals.{add-one}
 use native.Mathlib.Omega.{arith}
 use lib.ListN.{length, take, set, get_or, length-take, length-append}
 use lib.Seq.{take_all, take-append-le, take-suc-set, take-suc}
-use Rattle.io.specs.Counts.{IsPrefixLen}
 use Rattle.text.specs.Line.{text_of, clip, Adds}
 use Rattle.text.specs.declared.Line.{Line}
 
@@ -28,14 +27,6 @@ take-take-append (suc n) (x ∷ s) t = ap (x ∷◌) (take-take-append n s t)
 pub joined : (s t : List ℕ) → clip (clip s ++ t) ≡ clip (s ++ t)
 unfolding clip
 joined s t = take-take-append 96 s t
-
--- a number of a line's bytes
-pub counts : (n : ℕ) (b : List ℕ) → length b ≡ 96 → n ≤ 96 → IsPrefixLen n b
-counts n b h l = (omega arith, simp length-take (omega arith))
-
--- nothing stands beyond a line's bytes
-pub beyond : (n : ℕ) (b : List ℕ) → length b ≡ 96 → 96 ≤ n → take 96 b ≡ take n b
-beyond n b h l = take_all 96 b (omega arith) ∙ sym (take_all n b (omega arith))
 
 -- a byte put at the end of a line, and one that does not fit
 pub put : (n : ℕ) (b : List ℕ) (x : ℕ) → length b ≡ 96 → n < 96 → take (n + 1) (set b n x) ≡ clip (take n b ++ x ∷ [])

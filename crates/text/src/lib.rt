@@ -1,7 +1,7 @@
 // A line in the making, by value. What does not fit is left out.
 #![tactic(auto)]
 
-ghost use Rattle.std.specs.Prelude.{◌≡◌, [], ◌∷◌, take, nat_abs};
+ghost use Rattle.std.specs.Prelude.{◌≡◌, [], ◌∷◌, take};
 ghost use Rattle.io.specs.Counts.{IsPrefixLen};
 ghost use Rattle.text.specs.Decimal.{number, signed};
 ghost use Rattle.text.specs.Line.{text_of, Adds};
@@ -9,7 +9,7 @@ ghost use Rattle.text.specs.Line.{text_of, Adds};
 // A line of the bench program has at most 72 bytes.
 pub const MOST: usize = 96;
 
-// The text is the first `length` bytes.
+// The text is the first `length` bytes: there is no heap.
 #[derive(Clone, Copy)]
 pub struct Line {
     pub bytes: [u8; MOST],
@@ -26,29 +26,23 @@ impl Line {
         }
     }
 
-    pub fn byte(self, b: u8) -> Line
+    pub fn byte(mut self, b: u8) -> Line
         ensures { Adds self (b ∷ []) result }
     {
-        let at = self.length;
-        if MOST <= at {
-            return self;
+        if self.length < MOST {
+            self.bytes[self.length] = b;
+            self.length += 1;
         }
-        let mut line = self;
-        line.bytes[at] = b;
-        line.length = at + 1;
-        line
+        self
     }
 
-    pub fn text(self, text: &[u8]) -> Line
+    pub fn text(mut self, text: &[u8]) -> Line
         ensures { Adds self text.now result }
     {
-        let mut line = self;
-        let mut i = 0;
-        while i < text.len() {
-            line = line.byte(text[i]);
-            i += 1;
+        for &b in text {
+            self = self.byte(b);
         }
-        line
+        self
     }
 
     pub fn number(self, n: u64) -> Line
@@ -63,9 +57,9 @@ impl Line {
         ensures { Adds self (signed n) result }
     {
         if n < 0 {
-            return self.byte(b'-').number(magnitude(n));
+            return self.byte(b'-').number(n.unsigned_abs());
         }
-        self.number(magnitude(n))
+        self.number(n.unsigned_abs())
     }
 
     // Where the text ends, also in a record that no function of this file made.
@@ -73,20 +67,6 @@ impl Line {
         ensures prefix_len { IsPrefixLen result self.bytes }
         ensures bytes_value { take result self.bytes ≡ text_of self }
     {
-        let n = self.length;
-        if n < MOST {
-            return n;
-        }
-        MOST
+        self.length.min(MOST)
     }
-}
-
-// The least number's does not fit an i64.
-fn magnitude(n: i64) -> u64
-    ensures { result ≡ nat_abs n }
-{
-    if n < 0 {
-        return (-1 - n) as u64 + 1;
-    }
-    n as u64
 }

@@ -1,19 +1,31 @@
 -- The test byte by byte.
 -- Assumes nothing.
 use mathlib.Core.Path.{◌≡◌, refl, sym, ap}
-use mathlib.Core.Bool.{true, false}
+use mathlib.Core.Bool.{Bool, true, false, ◌&&◌}
 use mathlib.Core.List.{List, [], ◌∷◌}
 use Prim.Native.Nat.{ℕ, zero, suc, ◌+◌, ◌-◌, ◌≤◌, ◌<◌}
 use native.Mathlib.Numerals.{add-one}
 use native.Mathlib.Omega.{arith}
-use borrow.Author.Tests.{ne_eqb}
-use lib.Dec.{eqb}
+use borrow.Author.Tests.{ne_eqb, le-leb, lt-leb}
+use lib.Dec.{eqb, leb}
 use lib.ListN.{length, get_or, drop, drop_of_length-le}
 use lib.Seq.{drop-cons}
 use Rattle.utf8.specs.Utf8.{Range, range, within, nowhere, characters, after, goes_on}
 use Rattle.utf8.specs.Wanted.{want_of, tails_of, wanted, ranges_of, Steps}
 use Rattle.utf8.specs.declared.Want.{Want}
-use Rattle.utf8.proofs.Rows.{inside, under, over}
+
+and-false : (t : Bool) → (t && false) ≡ false
+and-false true = refl
+and-false false = refl
+
+inside : (r : Range) (b : ℕ) → r.low ≤ b → b ≤ r.high → within r b ≡ true
+inside r b l h = rw (le-leb r.low b l, le-leb b r.high h)
+
+under : (r : Range) (b : ℕ) → b < r.low → within r b ≡ false
+under r b l = rw (lt-leb r.low b l)
+
+over : (r : Range) (b : ℕ) → r.high < b → within r b ≡ false
+over r b h = rw (lt-leb b r.high h) (and-false (leb r.low b))
 
 no_byte : (s : List ℕ) → goes_on (nowhere ∷ []) s ≡ false
 unfolding goes_on
@@ -60,8 +72,8 @@ goes b w p l h = goes_from b w.tails w.low w.high p (inside (range w.low w.high)
 
 -- ---- the same at a place of the bytes
 
-pub step-at : (w r : Want) (s : List ℕ) (i : ℕ) → i < length s → Steps w (get_or s i 0) r → goes_on (ranges_of r) (drop (i + 1) s) ≡ goes_on (ranges_of w) (drop i s)
-step-at w r s i h t = rw (drop-cons s i 0 h, add-one i) (sym (t.on (drop (suc i) s)))
+pub step_at : (w r : Want) (s : List ℕ) (i : ℕ) → i < length s → Steps w (get_or s i 0) r → goes_on (ranges_of r) (drop (i + 1) s) ≡ goes_on (ranges_of w) (drop i s)
+step_at w r s i h t = rw (drop-cons s i 0 h, add-one i) (sym (t.on (drop (suc i) s)))
 
 ends : (n l h : ℕ) → goes_on (wanted n l h) [] ≡ eqb n 0
 unfolding goes_on

@@ -1,16 +1,18 @@
-use native.Mathlib.Omega.{arith}
-use lib.ListN.{length-set}
-use Rattle.protobuf.proofs.Writing.{store_four}
+use Rattle.std.proofs.Common.{◌+◌, ◌-◌, refl, sym, ◌∙◌, arith}
+use Rattle.std.proofs.lemmas.Slice.{put_mid-paste}
+use lib.Seq.{sets-eq}
+use Rattle.little_endian.specs.Little.{digits}
+use Rattle.protobuf.proofs.Writing.{four-bytes}
 use Rattle.protobuf.proofs.put_four.Goals as goal
 
-pub bounds-buffer-at-2 : goal.bounds-buffer-at-2
-bounds-buffer-at-2 c = simp length-set (omega arith)
-
-pub bounds-buffer-at-3 : goal.bounds-buffer-at-3
-bounds-buffer-at-3 c = simp length-set (omega arith)
-
-pub bounds-buffer-at-4 : goal.bounds-buffer-at-4
-bounds-buffer-at-4 c = simp length-set (omega arith)
-
 pub returns : goal.returns
-returns c = store_four c.args.v c.args.buffer.now c.args.at
+returns c =
+    let d = c.args.buffer.now in
+    let at = c.args.at in
+    let src = digits 4 c.args.v in
+    record {
+      place = refl;
+      stored =
+          put_mid-paste at (at + 4 - at) d c.copy_from_slice.new.self src 4 (c.copy_from_slice.ensures.after ∙ c.to_le_bytes.ensures ∙ four-bytes c.args.v) (omega arith) refl
+          ∙ sym (sets-eq src d at c.requires);
+    }

@@ -1,4 +1,4 @@
-use mathlib.Core.Path.{refl, ◌∙◌}
+use mathlib.Core.Path.{◌∙◌}
 use Prim.Native.Nat.{◌+◌, ◌%◌, ◌^◌, ◌≤◌, ◌<◌}
 use native.Mathlib.Omega.{arith}
 use lib.ListN.{length-set}
@@ -6,23 +6,8 @@ use Rattle.protobuf_format.proofs.Varint.{groups_of_pos, length_few, length-many
 use Rattle.protobuf.proofs.Writing.{store_few, store_many}
 use Rattle.protobuf.proofs.put_varint.Goals as goal
 
-pub loop-rest-init : goal.loop-rest-init
-loop-rest-init c = (refl, refl, refl, omega arith)
-
-pub overflow_add-buffer : goal.overflow_add-buffer
-overflow_add-buffer c = omega arith
-
-pub overflow_cast-buffer : goal.overflow_cast-buffer
-overflow_cast-buffer c = omega arith
-
 pub bounds-buffer-i : goal.bounds-buffer-i
 bounds-buffer-i c = omega (arith, groups_of_pos 9 c.loop-rest.rest)
-
-pub overflow_add-i : goal.overflow_add-i
-overflow_add-i c = omega (arith, groups_of_pos 9 c.loop-rest.rest)
-
-pub loop-rest-smaller : goal.loop-rest-smaller
-loop-rest-smaller c = omega arith
 
 pub loop-rest-preserved : goal.loop-rest-preserved
 loop-rest-preserved c =
@@ -35,17 +20,8 @@ loop-rest-preserved c =
       omega arith,
     )
 
-pub overflow_cast-buffer-2 : goal.overflow_cast-buffer-2
-overflow_cast-buffer-2 c = omega arith
-
 pub bounds-buffer-i-2 : goal.bounds-buffer-i-2
 bounds-buffer-i-2 c = omega (arith, groups_of_pos 9 c.loop-rest.rest)
-
-pub overflow_add-result : goal.overflow_add-result
-overflow_add-result c = omega (arith, groups_of_pos 9 c.loop-rest.rest)
-
-pub shape_of-buffer : goal.shape_of-buffer
-shape_of-buffer c = length-set c.loop-rest.buffer c.loop-rest.i c.loop-rest.rest ∙ c.loop-rest.invariant.2
 
 pub returns : goal.returns
 returns c =

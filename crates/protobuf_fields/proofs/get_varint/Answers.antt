@@ -1,19 +1,13 @@
-use native.Mathlib.Omega.{arith}
-use Rattle.protobuf_fields.proofs.Groups.{no_byte, last_byte, more_byte, varint-same}
+use Rattle.std.proofs.Common.{arith}
+use Rattle.protobuf_format.specs.Varint.{varint}
+use Rattle.protobuf_fields.proofs.Groups.{last_byte, none_behind}
 use Rattle.protobuf_fields.proofs.get_varint.Goals as goal
 
-pub returns-then-s-at : goal.returns-then-s-at
-returns-then-s-at c =
-    varint-same (no_byte c.args.s.now c.args.at 10 c.if-s-at.true)
-
 pub returns-then-b-lt-MORE : goal.returns-then-b-lt-MORE
-returns-then-b-lt-MORE c =
-    varint-same
-    (last_byte c.args.s.now c.args.at 10 c.wide-b.result (omega arith) c.if-s-at.false c.wide-b.ensures c.if-b-lt-MORE.true)
+unfolding varint
+returns-then-b-lt-MORE c = last_byte _ _ 10 _ (omega arith) c.if-s-at.false c.from-b.ensures c.if-b-lt-MORE.true
 
-pub returns : goal.returns
-returns c =
-    rw c.more.ensures
-    (varint-same
-    (more_byte c.args.s.now c.args.at 10 c.wide-b.result c.get_groups.result
-    (omega arith) c.if-s-at.false c.wide-b.ensures c.if-b-lt-MORE.false c.get_groups.ensures))
+pub returns-in_err-n : goal.returns-in_err-n
+unfolding varint
+returns-in_err-n c =
+    none_behind _ _ 10 c.from-b.result _ _ (omega arith) c.if-s-at.false c.from-b.ensures c.if-b-lt-MORE.false c.from_residual.ensures.0 c.in_err-n.ensures

@@ -1,28 +1,13 @@
-use lib.ListN.{take, drop}
-use Rattle.little_endian.specs.Little.{little}
+use Rattle.redirect_reader.proofs.Redirects.{token_malformed, handle_malformed, generation_malformed}
 use Rattle.redirect_reader.proofs.put_field.Goals as goal
 
-pub put_int-requires : goal.put_int-requires
-put_int-requires c = tt
+pub returns-in_err-bytes_of-in-1 : goal.returns-in_err-bytes_of-in-1
+returns-in_err-bytes_of-in-1 c = token_malformed c.args.s.now c.args.m c.args.field _ _ c.from_residual.ensures.0 c.in-1.is c.in_err-bytes_of-in-1.ensures
 
-pub put_fixed-requires : goal.put_fixed-requires
-put_fixed-requires c = tt
+pub returns-in_err-bytes_of-in-2 : goal.returns-in_err-bytes_of-in-2
+returns-in_err-bytes_of-in-2 c =
+    handle_malformed c.args.s.now c.args.m c.args.field _ _ c.from_residual-in_err-bytes_of-in-2.ensures.0 c.in-2.is c.in_err-bytes_of-in-2.ensures
 
-pub put_bytes-requires : goal.put_bytes-requires
-put_bytes-requires c = let within = rw c.in-Bytes.is at c.requires.0 in
-    (within.0, within.1, c.requires.1)
-
-pub put_fixed-requires-in-Fixed32 : goal.put_fixed-requires-in-Fixed32
-put_fixed-requires-in-Fixed32 c = tt
-
-pub returns-in-Int : goal.returns-in-Int
-returns-in-Int c = rw c.in-Int.is (c.put_int.ensures.on c.args.s.now c.requires.1)
-
-pub returns-in-Fixed64 : goal.returns-in-Fixed64
-returns-in-Fixed64 c = rw c.in-Fixed64.is ((c.put_fixed.ensures.eight (little (take 8 (drop c.in-Fixed64.field-1 c.args.s.now)))).on c.args.s.now c.requires.1)
-
-pub returns-in-Bytes : goal.returns-in-Bytes
-returns-in-Bytes c = rw c.in-Bytes.is c.put_bytes.ensures
-
-pub returns-in-Fixed32 : goal.returns-in-Fixed32
-returns-in-Fixed32 c = rw c.in-Fixed32.is ((c.put_fixed-in-Fixed32.ensures.four (little (take 4 (drop c.in-Fixed32.field-1 c.args.s.now)))).on c.args.s.now c.requires.1)
+pub returns-in_err-int_of-in-3 : goal.returns-in_err-int_of-in-3
+returns-in_err-int_of-in-3 c =
+    generation_malformed c.args.s.now c.args.m c.args.field _ _ c.from_residual-in_err-int_of-in-3.ensures.0 c.in-3.is c.in_err-int_of-in-3.ensures
