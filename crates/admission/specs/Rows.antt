@@ -4,8 +4,9 @@ use Rattle.std.specs.Prelude.{Bool, not, ◌&&◌, ◌||◌, [], ◌∷◌, ℕ,
 use Rattle.rules.specs.Limits.{max_chunk, max_capacity}
 use Rattle.bidi_write.specs.Numbers.{to_ℕ}
 use Rattle.bidi_write.specs.Refusal.{Rows, checked}
+use Rattle.bidi_write.specs.declared.Refusal.{Refusal}
 use Rattle.bidi_write.specs.declared.Refusal.TheVariants as refusal
-use Rattle.bidi_write.specs.declared.Check.{Check}
+use Rattle.std.specs.declared.result.Result.{Result}
 
 -- "C is 0 or above 2,097,152, or capacity above 1,073,741,824"
 abbrev pub bad_limits : (limit asked : ℕ) → Bool
@@ -36,11 +37,11 @@ upload_rows phase finalized sends cuts short full room past =
     ∷ (cuts && past, refusal.PastEnd)
     ∷ []
 
-abbrev pub upload_check : (phase : ℕ) (finalized sends cuts short full room past : Bool) → Check
+abbrev pub upload_check : (phase : ℕ) (finalized sends cuts short full room past : Bool) → Result (Unit {0}) Refusal
 upload_check phase finalized sends cuts short full room past = checked (upload_rows phase finalized sends cuts short full room past)
 
 -- by a session's numbers, for a chunk of n bytes
-abbrev pub upload_tests : (phase : ℕ) (finalized : Bool) (limit capacity stored : ℕ) (offset : ℤ) (sends cuts : Bool) (n out : ℕ) (room : Bool) → Check
+abbrev pub upload_tests : (phase : ℕ) (finalized : Bool) (limit capacity stored : ℕ) (offset : ℤ) (sends cuts : Bool) (n out : ℕ) (room : Bool) → Result (Unit {0}) Refusal
 upload_tests phase finalized limit capacity stored offset sends cuts n out room =
     upload_check phase finalized sends cuts (ltb out limit) (leb capacity stored) room (ltb (2 ^ 63 - 1) (to_ℕ offset + n))
 

@@ -1,15 +1,15 @@
 // Whether an opening or a call goes on: the rows of its tests, on plain numbers, in the papers' order: "Opening checks 1 to 5 in order. Later calls check 7, 12, 6,
 // 13, 4, 11, 8, 9, 10, as far as they apply", and 15 "between 13 and 4".
-#![tactic(auto)]
+#![tactic(auto, unfolding(bidi_write::specs::Refusal::checked))]
 
 ghost use Rattle.std.specs.Prelude.{◌≡◌, not, ◌||◌, ◌+◌, ◌-◌, ◌^◌, ltb, eqb};
 ghost use Rattle.bidi_write.specs.Numbers.{to_ℕ};
 ghost use Rattle.bidi_write.specs.Refusal.{checked};
 ghost use Rattle.admission.specs.Rows.{bad_limits, open_rows, upload_tests, close_rows, message_rows, break_rows, judge_rows, fail_rows, next_rows, unsent_rows};
 
-use bidi_write::{Check, MAX_CAPACITY, MAX_WRITE_CHUNK_SIZE, Offset, Refusal, both, either};
+use bidi_write::{MAX_CAPACITY, MAX_WRITE_CHUNK_SIZE, Offset, Refusal, refuse_if};
 
-// The phases as numbers.
+// The phases as numbers: the rows of each call are over any number (`close_rows` and the rest).
 pub const LIVE: u8 = 1;
 
 pub const VERDICT: u8 = 2;
@@ -26,27 +26,21 @@ pub const ENDED: u8 = 6;
 pub fn is_streaming(phase: u8) -> bool
     ensures { result ≡ (eqb phase 1 || eqb phase 5) }
 {
-    either(phase == LIVE, phase == CLOSING)
+    phase == LIVE || phase == CLOSING
 }
 
 // A chunk limit, or a capacity asked for, that no opening admits.
 pub fn bad_limits(limit: usize, asked: usize) -> bool
     ensures { result ≡ bad_limits limit asked }
 {
-    if limit == 0 {
-        return true;
-    }
-    if MAX_WRITE_CHUNK_SIZE < limit {
-        return true;
-    }
-    MAX_CAPACITY < asked
+    limit == 0 || MAX_WRITE_CHUNK_SIZE < limit || MAX_CAPACITY < asked
 }
 
 // A store shorter than the ring, or a table without a slot.
 pub fn short_memory(ring: usize, store: usize, slots: usize) -> bool
     ensures { result ≡ (ltb store ring || eqb slots 0) }
 {
-    either(store < ring, slots == 0)
+    store < ring || slots == 0
 }
 
 // An opening whose limits are good.
@@ -59,18 +53,17 @@ pub fn open(
     long_answer: bool,
     long_payload: bool,
     finalized: bool,
-) -> Check
+) -> Result<(), Refusal>
     ensures { result ≡ checked (open_rows short (not named) long_object long_token long_handle long_answer long_payload finalized) }
 {
-    Check::Go
-        .row(short, Refusal::ShortMemory)
-        .row(!named, Refusal::BadBucket)
-        .row(long_object, Refusal::TooLong)
-        .row(long_token, Refusal::TooLong)
-        .row(long_handle, Refusal::TooLong)
-        .row(long_answer, Refusal::TooLong)
-        .row(long_payload, Refusal::TooLong)
-        .row(finalized, Refusal::Finalized)
+    refuse_if(short, Refusal::ShortMemory)?;
+    refuse_if(!named, Refusal::BadBucket)?;
+    refuse_if(long_object, Refusal::TooLong)?;
+    refuse_if(long_token, Refusal::TooLong)?;
+    refuse_if(long_handle, Refusal::TooLong)?;
+    refuse_if(long_answer, Refusal::TooLong)?;
+    refuse_if(long_payload, Refusal::TooLong)?;
+    refuse_if(finalized, Refusal::Finalized)
 }
 
 // "A chunk would end past 2^63 − 1": one of n bytes at the write offset.
@@ -93,84 +86,76 @@ pub fn upload(
     n: usize,
     out: usize,
     no_room: bool,
-) -> Check
+) -> Result<(), Refusal>
     ensures { result ≡ upload_tests phase finalized limit capacity stored write_offset.0 sends cuts n out no_room }
 {
     let past = past_end(write_offset, n);
-    Check::Go
-        .row(phase == ENDED, Refusal::Ended)
-        // "after close or a finalise's waiter"
-        .row(either(phase == CLOSING, finalized), Refusal::Closed)
-        .row(both(sends, phase != LIVE), Refusal::WrongPhase)
-        .row(both(cuts, out < limit), Refusal::ShortOut)
-        .row(both(sends, capacity <= stored), Refusal::Full)
-        .row(no_room, Refusal::NoRoom)
-        .row(both(cuts, past), Refusal::PastEnd)
+    refuse_if(phase == ENDED, Refusal::Ended)?;
+    // "after close or a finalise's waiter"
+    refuse_if(phase == CLOSING || finalized, Refusal::Closed)?;
+    refuse_if(sends && phase != LIVE, Refusal::WrongPhase)?;
+    refuse_if(cuts && out < limit, Refusal::ShortOut)?;
+    refuse_if(sends && capacity <= stored, Refusal::Full)?;
+    refuse_if(no_room, Refusal::NoRoom)?;
+    refuse_if(cuts && past, Refusal::PastEnd)
 }
 
-pub fn close(phase: u8, full: bool) -> Check
+pub fn close(phase: u8, full: bool) -> Result<(), Refusal>
     ensures { result ≡ checked (close_rows phase full) }
 {
-    Check::Go
-        .row(phase == ENDED, Refusal::Ended)
-        .row(phase != LIVE, Refusal::WrongPhase)
-        .row(full, Refusal::Full)
+    refuse_if(phase == ENDED, Refusal::Ended)?;
+    refuse_if(phase != LIVE, Refusal::WrongPhase)?;
+    refuse_if(full, Refusal::Full)
 }
 
 // A response, or a handshake, whose phases differ.
-pub fn message(ended: bool, wrong_phase: bool, long: bool) -> Check
+pub fn message(ended: bool, wrong_phase: bool, long: bool) -> Result<(), Refusal>
     ensures { result ≡ checked (message_rows ended wrong_phase long) }
 {
-    Check::Go
-        .row(ended, Refusal::Ended)
-        .row(wrong_phase, Refusal::WrongPhase)
-        .row(long, Refusal::TooLong)
+    refuse_if(ended, Refusal::Ended)?;
+    refuse_if(wrong_phase, Refusal::WrongPhase)?;
+    refuse_if(long, Refusal::TooLong)
 }
 
-pub fn stream_break(phase: u8, malformed: bool, long: bool) -> Check
+pub fn stream_break(phase: u8, malformed: bool, long: bool) -> Result<(), Refusal>
     ensures { result ≡ checked (break_rows phase malformed long) }
 {
     let streams = is_streaming(phase);
-    Check::Go
-        .row(phase == ENDED, Refusal::Ended)
-        .row(!streams, Refusal::WrongPhase)
-        .row(malformed, Refusal::Malformed)
-        .row(long, Refusal::TooLong)
+    refuse_if(phase == ENDED, Refusal::Ended)?;
+    refuse_if(!streams, Refusal::WrongPhase)?;
+    refuse_if(malformed, Refusal::Malformed)?;
+    refuse_if(long, Refusal::TooLong)
 }
 
-pub fn judge(phase: u8, valid: bool) -> Check
+pub fn judge(phase: u8, valid: bool) -> Result<(), Refusal>
     ensures { result ≡ checked (judge_rows phase valid) }
 {
-    Check::Go
-        .row(phase == ENDED, Refusal::Ended)
-        .row(phase != VERDICT, Refusal::WrongPhase)
-        .row(!valid, Refusal::BadVerdict)
+    refuse_if(phase == ENDED, Refusal::Ended)?;
+    refuse_if(phase != VERDICT, Refusal::WrongPhase)?;
+    refuse_if(!valid, Refusal::BadVerdict)
 }
 
-pub fn failed_attempt(phase: u8, valid: bool, malformed: bool, long: bool) -> Check
+pub fn failed_attempt(phase: u8, valid: bool, malformed: bool, long: bool) -> Result<(), Refusal>
     ensures { result ≡ checked (fail_rows phase valid malformed long) }
 {
-    Check::Go
-        .row(phase == ENDED, Refusal::Ended)
-        .row(phase != CONNECTING, Refusal::WrongPhase)
-        .row(!valid, Refusal::BadVerdict)
-        .row(malformed, Refusal::Malformed)
-        .row(long, Refusal::TooLong)
+    refuse_if(phase == ENDED, Refusal::Ended)?;
+    refuse_if(phase != CONNECTING, Refusal::WrongPhase)?;
+    refuse_if(!valid, Refusal::BadVerdict)?;
+    refuse_if(malformed, Refusal::Malformed)?;
+    refuse_if(long, Refusal::TooLong)
 }
 
-pub fn next_request(phase: u8, short: bool) -> Check
+pub fn next_request(phase: u8, short: bool) -> Result<(), Refusal>
     ensures { result ≡ checked (next_rows phase short) }
 {
-    Check::Go
-        .row(phase == ENDED, Refusal::Ended)
-        .row(phase != REPLAY, Refusal::WrongPhase)
-        .row(short, Refusal::ShortOut)
+    refuse_if(phase == ENDED, Refusal::Ended)?;
+    refuse_if(phase != REPLAY, Refusal::WrongPhase)?;
+    refuse_if(short, Refusal::ShortOut)
 }
 
-pub fn send_failed(phase: u8, nothing: bool) -> Check
+pub fn send_failed(phase: u8, nothing: bool) -> Result<(), Refusal>
     ensures { result ≡ checked (unsent_rows phase nothing) }
 {
-    Check::Go
-        .row(phase == ENDED, Refusal::Ended)
-        .row(nothing, Refusal::WrongPhase)
+    refuse_if(phase == ENDED, Refusal::Ended)?;
+    refuse_if(nothing, Refusal::WrongPhase)
 }

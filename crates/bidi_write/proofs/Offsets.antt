@@ -1,4 +1,4 @@
--- Offsets moved by bytes, and subtracted.
+-- Offsets subtracted, and moved by bytes.
 -- Assumes nothing.
 use mathlib.Core.Path.{◌≡◌, refl, sym, ap, ◌∙◌}
 use mathlib.Core.Bool.{Bool, true, false, cond}
@@ -6,37 +6,12 @@ use Prim.Native.Nat.{ℕ, zero, suc, ◌+◌, ◌-◌, ◌<◌, ◌≤◌, ◌^�
 use native.Mathlib.Omega.{arith}
 use borrow.Author.Tests.{lt-ltb, le-ltb, ltb-true, ltb-false, le-leb, lt-leb, leb-true, leb-false}
 use lib.Dec.{ltb, leb}
-use lib.IntN.{ℤ, pos, negsuc, neg_ℤ, sub_ℕ, ◌+ℤ◌, ◌-ℤ◌, +ℤ_assoc, +ℤ_comm, +ℤ_idr, neg_ℤ-+ℤ, +ℤ-neg_ℤ_cancel, -ℤ-+ℤ_cancel}
-use lib.Signed.{lt_z, le_z, mag, ◌<ℤ◌, ◌≤ℤ◌, le_z_yes, lt_z_yes, <ℤ-≤ℤ_trans, clash_ℤ}
-use mir.Syntax.{w64}
-use mir.Val.{SFits}
+use lib.IntN.{ℤ, pos, negsuc, neg_ℤ, ◌+ℤ◌, ◌-ℤ◌, +ℤ_assoc, +ℤ_comm, +ℤ_idr, neg_ℤ-+ℤ, +ℤ-neg_ℤ_cancel, -ℤ-+ℤ_cancel}
+use lib.Signed.{lt_z, le_z, ◌<ℤ◌, ◌≤ℤ◌, le_z_yes, lt_z_yes, <ℤ-≤ℤ_trans, clash_ℤ}
 use Rattle.bidi_write.specs.Numbers.{to_ℕ, Differs}
 use Rattle.bidi_write.specs.declared.Difference.TheVariants as difference
 
--- ---- moved by n bytes
-
-small : (a b : ℕ) → a < 2 ^ 63 → b ≤ 2 ^ 63 → SFits w64 (sub_ℕ a b)
-small a b h g = record { sfits = at (ltb a b) refl }
-  where
-    at : (t : Bool) → ltb a b ≡ t → mag (cond t (negsuc (b - suc a)) (pos (a - b))) < 2 ^ 63
-    at true e = omega (arith, ltb-true a b e)
-    at false e = omega (arith, ltb-false a b e)
-
-pub plus_fits : (z : ℤ) (n : ℕ) → SFits w64 z → to_ℕ z + n < 2 ^ 63 → SFits w64 (z +ℤ pos n)
-plus_fits (pos a) n f h = record { sfits = h }
-plus_fits (negsuc a) n f h = small n (suc a) (omega arith) (omega (arith, f.sfits))
-
-pub minus_fits : (z : ℤ) (n : ℕ) → SFits w64 z → n ≤ to_ℕ z → SFits w64 (z -ℤ pos n)
-minus_fits (pos a) zero f h = record { sfits = omega (arith, f.sfits) }
-minus_fits (pos a) (suc n) f h = small a (suc n) f.sfits (omega (arith, f.sfits))
-minus_fits (negsuc a) zero f h = small 0 (suc a) (omega arith) (omega (arith, f.sfits))
-minus_fits (negsuc a) (suc n) f h = absurd (omega arith)
-
 -- ---- the difference, of numbers that are 2^63 more
-
-pub raise_low : (z : ℤ) → lt_z z (pos 0) ≡ true → SFits w64 z → (z +ℤ pos (2 ^ 63) ≡ pos (2 ^ 63 - suc (mag z))) × (suc (mag z) ≤ 2 ^ 63)
-raise_low (pos n) e f = absurd (omega (arith, ltb-true n 0 e))
-raise_low (negsuc n) e f = (rw (le-ltb (2 ^ 63) (suc n) f.sfits), f.sfits)
 
 module _ (x : ℕ) where
   high : (n : ℕ) → pos x ≡ pos n +ℤ pos (2 ^ 63) → x ≡ n + 2 ^ 63
@@ -161,21 +136,3 @@ past_is (negsuc n) (suc o) = omega arith
 pub past_zero : (z : ℤ) → 0 < to_ℕ z → z ≡ pos (to_ℕ z)
 past_zero (pos n) h = refl
 past_zero (negsuc n) h = absurd (omega arith)
-
--- ---- n bytes from a on end at p or below it
-
-below_top : (p : ℤ) (k : ℕ) → SFits w64 p → le_z (pos k) p ≡ true → k < 2 ^ 63
-below_top (pos p) k f e = omega (arith, leb-true k p e, f.sfits)
-below_top (negsuc p) k f e = let z : ◌≡◌ {A = ℕ} 0 1 = cc in absurd (omega arith)
-
-pub bytes_fit : (p a : ℤ) (n : ℕ) → SFits w64 p → SFits w64 a → le_z (a +ℤ pos n) p ≡ true → n < 2 ^ 64
-bytes_fit p (pos a) n f g e = omega (arith, below_top p (a + n) f e)
-bytes_fit p (negsuc a) n f g e = at (ltb n (suc a)) refl e
-  where
-    at : (t : Bool) → ltb n (suc a) ≡ t → le_z (cond t (negsuc (suc a - suc n)) (pos (n - suc a))) p ≡ true → n < 2 ^ 64
-    at true h l = omega (arith, ltb-true n (suc a) h, g.sfits)
-    at false h l = omega (arith, below_top p (n - suc a) f l, g.sfits)
-
-pub end_fits : (p a : ℤ) (n : ℕ) → SFits w64 p → n < 2 ^ 63 → le_z (a +ℤ pos n) p ≡ true → to_ℕ a + n < 2 ^ 63
-end_fits p (pos a) n f h e = below_top p (a + n) f e
-end_fits p (negsuc a) n f h e = omega arith

@@ -2,8 +2,8 @@
 use Rattle.std.specs.Prelude.{Bool, cond, List, [], ◌∷◌, ℕ}
 use Rattle.bidi_write.specs.declared.Refusal.{Refusal}
 use Rattle.bidi_write.specs.declared.Refusal.TheVariants as refusal
-use Rattle.bidi_write.specs.declared.Check.{Check}
-use Rattle.bidi_write.specs.declared.Check.TheVariants as check
+use Rattle.std.specs.declared.result.Result.{Result}
+use Rattle.std.specs.Prelude.{Ok, Err}
 
 -- the number of each refusal: 1 to 13 are document 01's, those from 14 on document 02's
 abbrev pub number_of : Refusal → ℕ
@@ -28,14 +28,9 @@ abbrev pub Rows : Type 0
 Rows = List (Bool × Refusal)
 
 -- the first row whose test holds
-unfoldable pub checked : Rows → Check
-checked [] = check.Go
-checked (row ∷ rows) = cond row.0 (check.Refuse row.1) (checked rows)
-
--- one row more behind others, from what those came to
-unfoldable pub rowed : Check → Bool → Refusal → Check
-rowed check.Go test x = cond test (check.Refuse x) check.Go
-rowed (check.Refuse y) test x = check.Refuse y
+unfoldable pub checked : Rows → Result (Unit {0}) Refusal
+checked [] = Ok tt
+checked (row ∷ rows) = cond row.0 (Err row.1) (checked rows)
 
 -- the rows as the rules have them
 abbrev pub numbered : Rows → List (Bool × ℕ)

@@ -6,16 +6,14 @@ use Rattle.rules.specs.Message as M
 use Rattle.rules.specs.Session as S
 use Rattle.bidi_write.specs.declared.Generation.{Generation}
 use Rattle.bidi_write.specs.declared.Metageneration.{Metageneration}
-use Rattle.bidi_write.specs.declared.Checksum.{Checksum}
-use Rattle.bidi_write.specs.declared.Checksum.TheVariants as checksum
-use Rattle.bidi_write.specs.declared.Data.{Data}
-use Rattle.bidi_write.specs.declared.Data.TheVariants as payload
+use Rattle.std.specs.declared.option.Option as opt
+use Rattle.std.specs.Prelude.{Some, None}
+use Rattle.bidi_write.specs.declared.Offset.{Offset}
+use Rattle.bidi_write.specs.declared.ChecksummedData.{ChecksummedData}
 use Rattle.bidi_write.specs.declared.Request.{Request}
 use Rattle.bidi_write.specs.declared.WriteStatus.{WriteStatus}
 use Rattle.bidi_write.specs.declared.WriteStatus.TheVariants as status
 use Rattle.bidi_write.specs.declared.Response.{Response}
-use Rattle.bidi_write.specs.declared.NewGeneration.{NewGeneration}
-use Rattle.bidi_write.specs.declared.NewGeneration.TheVariants as generation
 use Rattle.bidi_write.specs.declared.Redirect.{Redirect}
 use Rattle.bidi_write.specs.declared.Detail.{Detail}
 use Rattle.bidi_write.specs.declared.Detail.TheVariants as detail
@@ -25,8 +23,6 @@ use Rattle.bidi_write.specs.declared.Call.{Call}
 use Rattle.bidi_write.specs.declared.Call.TheVariants as call
 use Rattle.bidi_write.specs.declared.Cause.{Cause}
 use Rattle.bidi_write.specs.declared.Cause.TheVariants as cause
-use Rattle.bidi_write.specs.declared.Size.{Size}
-use Rattle.bidi_write.specs.declared.Size.TheVariants as size
 
 abbrev pub generation_of : Generation → M.Generation
 generation_of g = record { number = g.0 }
@@ -34,19 +30,19 @@ generation_of g = record { number = g.0 }
 abbrev pub metageneration_of : Metageneration → M.Metageneration
 metageneration_of g = record { number = g.0 }
 
-abbrev pub checksum_of : Checksum → Option ℕ
-checksum_of checksum.Unknown = none
-checksum_of (checksum.Known c) = some c
+abbrev pub checksum_of : opt.Option ℕ → Option ℕ
+checksum_of None = none
+checksum_of (Some c) = some c
 
 -- the bytes of a request's data fill the front of the out buffer
-abbrev pub data_of : Data → M.Bytes → Option M.ChecksummedData
-data_of payload.Absent out = none
-data_of (payload.Checksummed d) out = some (record { content = take d.length out; crc32c = d.crc32c })
+abbrev pub data_of : opt.Option ChecksummedData → M.Bytes → Option M.ChecksummedData
+data_of None out = none
+data_of (Some d) out = some (record { content = take d.length out; crc32c = d.crc32c })
 
 -- the length that a request gives them
-abbrev pub length_of : Data → ℕ
-length_of payload.Absent = 0
-length_of (payload.Checksummed d) = d.length
+abbrev pub length_of : opt.Option ChecksummedData → ℕ
+length_of None = 0
+length_of (Some d) = d.length
 
 unfoldable pub request_of : Request → M.Bytes → M.Request
 request_of r out = record {
@@ -58,18 +54,18 @@ request_of r out = record {
   finish_write = r.finish_write;
 }
 
-abbrev pub status_of : WriteStatus → Option M.WriteStatus
-status_of status.Absent = none
-status_of (status.PersistedSize n) = some (M.persisted_size n.0)
-status_of (status.Resource r) = some (M.resource r.size.0 (generation_of r.generation) r.finalized)
+abbrev pub status_of : opt.Option WriteStatus → Option M.WriteStatus
+status_of None = none
+status_of (Some (status.PersistedSize n)) = some (M.persisted_size n.0)
+status_of (Some (status.Resource r)) = some (M.resource r.size.0 (generation_of r.generation) r.finalized)
 
 -- bytes come beside a record, which says whether they are given
 abbrev pub response_of : Response → M.Bytes → M.Response
 response_of m handle = record { write_status = status_of m.write_status; write_handle = given m.has_write_handle handle }
 
-abbrev pub new_generation_of : NewGeneration → Option M.Generation
-new_generation_of generation.Absent = none
-new_generation_of (generation.Given g) = some (generation_of g)
+abbrev pub new_generation_of : opt.Option Generation → Option M.Generation
+new_generation_of None = none
+new_generation_of (Some g) = some (generation_of g)
 
 abbrev pub redirect_of : Redirect → M.Bytes → M.Bytes → M.Redirect
 redirect_of r token handle = record {
@@ -87,9 +83,9 @@ break_of stream.EndOfStream value = M.end_of_stream
 break_of (stream.Status s) value = M.status s.code (detail_of s.detail value)
 break_of stream.Error value = M.other_error
 
-abbrev pub size_of : Size → Option ℤ
-size_of size.Absent = none
-size_of (size.Stated n) = some n.0
+abbrev pub size_of : opt.Option Offset → Option ℤ
+size_of None = none
+size_of (Some n) = some n.0
 
 abbrev pub cause_of : Cause → S.Cause
 cause_of cause.Finished = S.finished

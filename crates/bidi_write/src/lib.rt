@@ -3,12 +3,12 @@
 // what a call brings in slices.
 #![tactic(auto)]
 
-ghost use Rattle.std.specs.Prelude.{◌≡◌, ◌&&◌, ◌||◌, ◌+◌, ◌<◌, ◌≤◌, ◌^◌, pos, ◌+ℤ◌, ◌-ℤ◌};
+ghost use Rattle.std.specs.Prelude.{◌≡◌, cond, Ok, Err, ◌+◌, ◌<◌, ◌≤◌, ◌^◌, pos, ◌+ℤ◌, ◌-ℤ◌};
 ghost use Rattle.std.specs.Int.Signed.{lt_z};
 ghost use Rattle.std.specs.Int.{w64};
 ghost use Rattle.std.proofs.Common.{to_z};
 ghost use Rattle.bidi_write.specs.Numbers.{to_ℕ, Differs};
-ghost use Rattle.bidi_write.specs.Refusal.{number_of, rowed};
+ghost use Rattle.bidi_write.specs.Refusal.{number_of};
 ghost use Rattle.bidi_write.specs.View.{size_of, status_of};
 ghost use Rattle.rules.specs.Message.{is_finalized};
 ghost use Rattle.rules.specs.Message as M;
@@ -40,13 +40,6 @@ pub struct Generation(pub i64);
 #[derive(Clone, Copy)]
 pub struct Metageneration(pub i64);
 
-// A CRC32C, where it is known.
-#[derive(Clone, Copy)]
-pub enum Checksum {
-    Unknown,
-    Known(u32),
-}
-
 // The data of a request: its bytes fill the front of the out buffer.
 #[derive(Clone, Copy)]
 pub struct ChecksummedData {
@@ -54,18 +47,12 @@ pub struct ChecksummedData {
     pub crc32c: u32,
 }
 
-#[derive(Clone, Copy)]
-pub enum Data {
-    Absent,
-    Checksummed(ChecksummedData),
-}
-
 // A request after opening. First message and request parameters are absent in all of them.
 #[derive(Clone, Copy)]
 pub struct Request {
     pub write_offset: Offset,
-    pub data: Data,
-    pub object_checksums: Checksum,
+    pub data: Option<ChecksummedData>,
+    pub object_checksums: Option<u32>,
     pub state_lookup: bool,
     pub flush: bool,
     pub finish_write: bool,
@@ -80,7 +67,6 @@ pub struct Resource {
 
 #[derive(Clone, Copy)]
 pub enum WriteStatus {
-    Absent,
     PersistedSize(Offset),
     Resource(Resource),
 }
@@ -88,14 +74,8 @@ pub enum WriteStatus {
 // A response; the handle's bytes come beside it.
 #[derive(Clone, Copy)]
 pub struct Response {
-    pub write_status: WriteStatus,
+    pub write_status: Option<WriteStatus>,
     pub has_write_handle: bool,
-}
-
-#[derive(Clone, Copy)]
-pub enum NewGeneration {
-    Absent,
-    Given(Generation),
 }
 
 // What a redirect's detail says; the token's and the handle's bytes come beside it.
@@ -103,7 +83,7 @@ pub enum NewGeneration {
 pub struct Redirect {
     pub has_routing_token: bool,
     pub has_write_handle: bool,
-    pub generation: NewGeneration,
+    pub generation: Option<Generation>,
 }
 
 // The detail of a status, which redirects or is absent; its value, as received, comes beside it.
@@ -138,12 +118,6 @@ pub enum Cause {
     Exhausted,
     GivenUp,
     StreamError,
-}
-
-#[derive(Clone, Copy)]
-pub enum Size {
-    Absent,
-    Stated(Offset),
 }
 
 // A call after opening. An append's data, a response's handle or the value of a break's detail comes beside it.
@@ -183,35 +157,25 @@ pub enum Refusal {
     TooManyEntries,
 }
 
-// Whether a call goes on.
-#[derive(Clone, Copy)]
-pub enum Check {
-    Go,
-    Refuse(Refusal),
-}
-
 // The acknowledged byte count that a response states.
-pub fn persisted_size(s: WriteStatus) -> Size
+pub fn persisted_size(s: Option<WriteStatus>) -> Option<Offset>
     ensures { size_of result ≡ M.size_of (status_of s) }
 {
     match s {
-        WriteStatus::Absent => Size::Absent,
-        WriteStatus::PersistedSize(n) => Size::Stated(n),
-        WriteStatus::Resource(r) => {
-            let n = r.size;
-            Size::Stated(n)
-        }
+        None => None,
+        Some(WriteStatus::PersistedSize(n)) => Some(n),
+        Some(WriteStatus::Resource(r)) => Some(r.size),
     }
 }
 
 // Whether a response reports an object that the service finalized.
-pub fn is_finalized(s: WriteStatus) -> bool
+pub fn is_finalized(s: Option<WriteStatus>) -> bool
     ensures { result ≡ is_finalized (status_of s) }
 {
     match s {
-        WriteStatus::Absent => false,
-        WriteStatus::PersistedSize(_) => false,
-        WriteStatus::Resource(r) => r.finalized,
+        None => false,
+        Some(WriteStatus::PersistedSize(_)) => false,
+        Some(WriteStatus::Resource(r)) => r.finalized,
     }
 }
 
@@ -219,27 +183,23 @@ pub fn is_finalized(s: WriteStatus) -> bool
 pub fn below(a: Offset, b: Offset) -> bool
     ensures { result ≡ lt_z a.0 b.0 }
 {
-    let x = a.0;
-    let y = b.0;
-    x < y
+    a.0 < b.0
 }
 
 pub fn is_negative(a: Offset) -> bool
     ensures { result ≡ lt_z a.0 (pos 0) }
 {
-    let x = a.0;
-    x < 0
+    a.0 < 0
 }
 
 // The offset in the order of the unsigned numbers: -2^63 is 0.
 fn raised(a: Offset) -> u64
     ensures { pos result ≡ a.0 +ℤ pos (2 ^ 63) }
 {
-    let x = a.0;
-    if x < 0 {
-        return (x - i64::MIN) as u64;
+    if a.0 < 0 {
+        return (a.0 - i64::MIN) as u64;
     }
-    x as u64 + 0x8000_0000_0000_0000
+    a.0 as u64 + 0x8000_0000_0000_0000
 }
 
 // a - b, for any two.
@@ -259,8 +219,7 @@ pub fn plus(a: Offset, n: usize) -> Offset
     requires { to_ℕ a.0 + n < 2 ^ 63 }
     ensures { result.0 ≡ a.0 +ℤ pos n }
 {
-    let x = a.0;
-    Offset(x + n as i64)
+    Offset(a.0 + n as i64)
 }
 
 // The offset n bytes before.
@@ -268,16 +227,14 @@ pub fn minus(a: Offset, n: usize) -> Offset
     requires { n ≤ to_ℕ a.0 }
     ensures { result.0 ≡ a.0 -ℤ pos n }
 {
-    let x = a.0;
-    Offset(x - n as i64)
+    Offset(a.0 - n as i64)
 }
 
 // The number, and 0 for one below 0.
 pub fn to_nat(a: Offset) -> u64
     ensures { (result ≡ to_ℕ a.0) × (result < 2 ^ 63) }
 {
-    let x = a.0;
-    if x < 0 { 0 } else { x as u64 }
+    if a.0 < 0 { 0 } else { a.0 as u64 }
 }
 
 pub fn from_nat(n: u64) -> Offset
@@ -323,32 +280,12 @@ pub fn refusal_number(x: Refusal) -> u64
     }
 }
 
-impl Check {
-    // A row of a call's tests, in the paper's order: the first whose test holds refuses.
-    pub fn row(self, test: bool, x: Refusal) -> Check
-        ensures { result ≡ rowed self test x }
-    {
-        match self {
-            Check::Go => {
-                if test {
-                    return Check::Refuse(x);
-                }
-                Check::Go
-            }
-            Check::Refuse(y) => Check::Refuse(y),
-        }
+// A row of a call's tests: where the test holds, it refuses. The rows of a call stand in the paper's order, and `?` lets the first that refuses answer.
+pub fn refuse_if(test: bool, x: Refusal) -> Result<(), Refusal>
+    ensures { result ≡ cond test (Err x) (Ok tt) }
+{
+    if test {
+        return Err(x);
     }
-}
-
-// Two tests, of which the second may apply only with the first.
-pub fn both(a: bool, b: bool) -> bool
-    ensures { result ≡ (a && b) }
-{
-    a && b
-}
-
-pub fn either(a: bool, b: bool) -> bool
-    ensures { result ≡ (a || b) }
-{
-    a || b
+    Ok(())
 }

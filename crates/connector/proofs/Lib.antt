@@ -1,3 +1,1 @@
-pub mod Counts
-pub mod Parts
 pub mod Prefix

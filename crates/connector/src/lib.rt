@@ -8,22 +8,20 @@ ghost use Rattle.rules.specs.Message as M;
 ghost use Rattle.rules.specs.Respond.{updated, progress};
 ghost use Rattle.rules.specs.Reconnect.{overlong, rerouted, attempted, counted};
 ghost use Rattle.rules.specs.Spec.{redirected};
-ghost use Rattle.rules.specs.Opening.{starts_with, good_bucket};
+ghost use Rattle.rules.specs.Opening.{good_bucket};
 ghost use Rattle.redirect.specs.Detail.{redirect_at, Within};
-ghost use Rattle.redirect_reader.specs.Places.{PartFits, SeenFits, part_in, seen_in};
+ghost use Rattle.redirect_reader.specs.Places.{PartFits, SeenFits, part_in, part_bytes, seen_in};
 ghost use Rattle.state.specs.View.{spec_of, SpecFits};
 ghost use Rattle.connector.specs.View.{connector_of};
 
-use bidi_write::{Offset, Response, Size};
+use bidi_write::{Offset, Response};
+use protobuf_fields::Part;
 use redirect::{Reading, redirect_of};
-use redirect_reader::{Part, Seen};
+use redirect_reader::Seen;
 use state::{AppendObjectSpec, MAX_BUCKET, MAX_ROUTING_TOKEN, MAX_WRITE_HANDLE};
 
 // What a bucket's name starts with.
 pub const BUCKET_PREFIX: [u8; 19] = *b"projects/_/buckets/";
-
-// The most that a count reaches.
-const MAX_COUNT: u32 = 4294967295;
 
 #[derive(Clone, Copy)]
 pub struct Connector {
@@ -33,6 +31,7 @@ pub struct Connector {
     pub last_persisted_size: Offset,
 }
 
+#[tactic(auto, unfolding(crate::specs::View::connector_of))]
 impl Connector {
     // Takes over a response's generation and handle.
     pub fn handle_response(mut self, m: Response, handle: &[u8]) -> Connector
@@ -40,45 +39,38 @@ impl Connector {
         ensures result_value { connector_of result ≡ updated (response_of m handle.now) (connector_of self) }
         ensures spec_fits { SpecFits self.spec → SpecFits result.spec }
     {
-        let spec = self.spec;
-        self.spec = spec.handle_response(m, handle);
+        self.spec = self.spec.handle_response(m, handle);
         self
     }
 
     // A size above the last one replaces it and starts both counts anew.
-    pub fn progress(mut self, size: Size) -> Connector
+    pub fn progress(mut self, size: Option<Offset>) -> Connector
         ensures result_value { connector_of result ≡ progress (size_of size) (connector_of self) }
         ensures spec_fits { SpecFits self.spec → SpecFits result.spec }
     {
-        match size {
-            Size::Absent => self,
-            Size::Stated(n) => {
-                let last = self.last_persisted_size;
-                if bidi_write::below(last, n) {
-                    self.attempt_count = 0;
-                    self.redirects_followed = 0;
-                    self.last_persisted_size = n;
-                    return self;
-                }
-                self
+        if let Some(n) = size {
+            if bidi_write::below(self.last_persisted_size, n) {
+                self.attempt_count = 0;
+                self.redirects_followed = 0;
+                self.last_persisted_size = n;
             }
         }
+        self
     }
 
     // A status with redirect detail is taken over for any code.
-    pub fn handle_redirect(mut self, d: Reading, value: &[u8]) -> Connector
+    pub fn handle_redirect(self, d: Reading, value: &[u8]) -> Connector
         requires { Within d (length value.now) × (overlong (redirect_at d value.now) ≡ false) }
         ensures result_value { connector_of result ≡ rerouted (redirect_at d value.now) (connector_of self) }
         ensures spec_fits { SpecFits self.spec → SpecFits result.spec }
     {
         match d {
-            Reading::Absent => self,
-            Reading::Malformed => self,
-            Reading::Read(m) => {
-                let spec = self.spec;
-                self.spec = reroute(spec, m, value);
-                self
-            }
+            Ok(None) => self,
+            Err(_) => self,
+            Ok(Some(m)) => Connector {
+                spec: reroute(self.spec, m, value),
+                ..self
+            },
         }
     }
 
@@ -87,13 +79,8 @@ impl Connector {
         ensures result_value { connector_of result ≡ attempted redirect (connector_of self) }
         ensures spec_fits { SpecFits self.spec → SpecFits result.spec }
     {
-        if redirect {
-            return self;
-        }
-        let n = self.attempt_count;
-        if n < MAX_COUNT {
-            self.attempt_count = n + 1;
-            return self;
+        if !redirect {
+            self.attempt_count = self.attempt_count.saturating_add(1);
         }
         self
     }
@@ -103,12 +90,8 @@ impl Connector {
         ensures result_value { self.redirects_followed < 2 ^ 32 - 1 → connector_of result ≡ counted redirect (connector_of self) }
         ensures spec_fits { SpecFits self.spec → SpecFits result.spec }
     {
-        let n = self.redirects_followed;
         if redirect {
-            if n < MAX_COUNT {
-                self.redirects_followed = n + 1;
-                return self;
-            }
+            self.redirects_followed = self.redirects_followed.saturating_add(1);
         }
         self
     }
@@ -120,7 +103,7 @@ impl Connector {
         ensures spec_fits { SpecFits self.spec → SpecFits result.spec }
     {
         self.handle_redirect(d, value)
-            .progress(Size::Stated(persisted))
+            .progress(Some(persisted))
             .count_attempt(redirect)
     }
 }
@@ -131,17 +114,22 @@ fn reroute(spec: AppendObjectSpec, m: Seen, value: &[u8]) -> AppendObjectSpec
     ensures result_value { spec_of result ≡ redirected (seen_in value.now m) (spec_of spec) }
     ensures spec_fits { SpecFits spec → SpecFits result }
 {
-    let token = m.token;
-    let token_start = token.start;
-    let token_end = token_start + token.len;
-    let handle = m.handle;
-    let handle_start = handle.start;
-    let handle_end = handle_start + handle.len;
     spec.handle_redirect(
         redirect_of(m),
-        &value[token_start..token_end],
-        &value[handle_start..handle_end],
+        bytes_of(value, m.token),
+        bytes_of(value, m.handle),
     )
+}
+
+// The bytes of a part of the value, if there is one.
+fn bytes_of<'a>(value: &'a [u8], p: Option<Part>) -> &'a [u8]
+    requires { PartFits p (length value.now) }
+    ensures { result.now ≡ part_bytes value.now p }
+{
+    match p {
+        Some(p) => p.of(value),
+        None => &[],
+    }
 }
 
 // Whether a redirect's token or handle is too long to keep.
@@ -149,74 +137,41 @@ pub fn too_long(d: Reading) -> bool
     ensures { (value : M.Bytes) → Within d (length value) → result ≡ overlong (redirect_at d value) }
 {
     match d {
-        Reading::Absent => false,
-        Reading::Malformed => false,
-        Reading::Read(m) => {
-            let token = m.token;
-            if part_over(token, MAX_ROUTING_TOKEN) {
-                return true;
-            }
-            let handle = m.handle;
-            part_over(handle, MAX_WRITE_HANDLE)
-        }
+        Ok(None) => false,
+        Err(_) => false,
+        Ok(Some(m)) => part_over(m.token, MAX_ROUTING_TOKEN)
+            || part_over(m.handle, MAX_WRITE_HANDLE),
     }
 }
 
 // Whether a part of a value is given, and has more bytes than the most.
-fn part_over(p: Part, most: usize) -> bool
+fn part_over(p: Option<Part>, most: usize) -> bool
     ensures { (value : M.Bytes) → PartFits p (length value) → result ≡ M.over most (part_in value p) }
 {
-    if p.has {
-        return most < p.len;
+    match p {
+        Some(p) => most < p.len,
+        None => false,
     }
-    false
 }
 
 // Whether a response's handle is too long to keep.
 pub fn handle_too_long(m: Response, handle: &[u8]) -> bool
     ensures { result ≡ M.over M.max_handle (response_of m handle.now).write_handle }
 {
-    let has_handle = m.has_write_handle;
-    over(has_handle, handle, MAX_WRITE_HANDLE)
+    over(m.has_write_handle, handle, MAX_WRITE_HANDLE)
 }
 
 // Whether bytes are given, and more than the most.
 pub fn over(present: bool, bytes: &[u8], most: usize) -> bool
     ensures { result ≡ M.over most (given present bytes.now) }
 {
-    if present {
-        return most < bytes.len();
-    }
-    false
+    present && most < bytes.len()
 }
 
 // Whether a bucket's name is whole: the prefix and 1 or more bytes, at most 256 in all.
+#[tactic(auto, using(crate::proofs::Prefix::prefix_is), unfolding(rules::specs::Opening::good_bucket))]
 pub fn is_bucket(b: &[u8]) -> bool
     ensures { result ≡ good_bucket b.now }
 {
-    if b.len() <= BUCKET_PREFIX.len() {
-        return false;
-    }
-    if MAX_BUCKET < b.len() {
-        return false;
-    }
-    let prefix = BUCKET_PREFIX;
-    starts_with(b, &prefix)
-}
-
-// Whether the first bytes of b are those of a prefix.
-fn starts_with(b: &[u8], prefix: &[u8]) -> bool
-    ensures { result ≡ starts_with prefix.now b.now }
-{
-    if b.len() < prefix.len() {
-        return false;
-    }
-    let mut i = 0;
-    while i < prefix.len() {
-        if b[i] != prefix[i] {
-            return false;
-        }
-        i += 1;
-    }
-    true
+    b.starts_with(&BUCKET_PREFIX) && BUCKET_PREFIX.len() < b.len() && b.len() <= MAX_BUCKET
 }

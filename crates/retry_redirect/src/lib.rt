@@ -10,52 +10,33 @@ use bidi_write::Cause;
 // Maximum redirects followed between progress before giving up.
 pub const MAX_REDIRECTS_FOLLOWED: u32 = 3;
 
-// The verdicts of the host's policy, with 1, continue.
+// The verdicts of the host's policy, with 1, continue. They stay numbers: a host may bring any, and `ruling` is over any.
 const PERMANENT: u8 = 2;
 
 const EXHAUSTED: u8 = 3;
 
 const GIVEN_UP: u8 = 4;
 
-#[derive(Clone, Copy)]
-pub enum RetryResult {
-    Continue,
-    Ended(Cause),
-}
-
 pub fn is_verdict(v: u8) -> bool
     ensures { result ≡ not (no_verdict v) }
 {
-    if v < 1 {
-        return false;
-    }
-    if GIVEN_UP < v {
-        return false;
-    }
-    true
+    1 <= v && v <= GIVEN_UP
 }
 
 // Redirects are control flow, not failures: the first three go on, whatever the policy says of the error.
-pub fn on_error(redirect: bool, redirects_followed: u32, verdict: u8) -> RetryResult
+pub fn on_error(redirect: bool, redirects_followed: u32, verdict: u8) -> Result<(), Cause>
     ensures { result_of result ≡ ruling redirect redirects_followed verdict }
 {
     if verdict == GIVEN_UP {
-        return RetryResult::Ended(Cause::GivenUp);
+        return Err(Cause::GivenUp);
     }
-    if redirect {
-        if redirects_followed < MAX_REDIRECTS_FOLLOWED {
-            return RetryResult::Continue;
-        }
-        if verdict == PERMANENT {
-            return RetryResult::Ended(Cause::Permanent);
-        }
-        return RetryResult::Ended(Cause::Exhausted);
+    if redirect && redirects_followed < MAX_REDIRECTS_FOLLOWED {
+        return Ok(());
     }
-    if verdict == PERMANENT {
-        return RetryResult::Ended(Cause::Permanent);
+    match verdict {
+        PERMANENT => Err(Cause::Permanent),
+        EXHAUSTED => Err(Cause::Exhausted),
+        _ if redirect => Err(Cause::Exhausted),
+        _ => Ok(()),
     }
-    if verdict == EXHAUSTED {
-        return RetryResult::Ended(Cause::Exhausted);
-    }
-    RetryResult::Continue
 }

@@ -7,9 +7,9 @@ ghost use Rattle.bidi_write.specs.View.{generation_of, new_generation_of, status
 ghost use Rattle.rules.specs.Message as M;
 ghost use Rattle.rules.specs.Spec as R;
 ghost use Rattle.rules.specs.Reconnect.{overlong};
-ghost use Rattle.state.specs.View.{handle_of, token_of, condition_of, spec_of, state_of, opened, SpecFits};
+ghost use Rattle.state.specs.View.{text_of, Fits, condition_of, spec_of, state_of, opened, SpecFits};
 
-use bidi_write::{Generation, Metageneration, NewGeneration, Redirect, Response, WriteStatus};
+use bidi_write::{Generation, Metageneration, Redirect, Response, WriteStatus};
 
 // The most bytes of each.
 pub const MAX_BUCKET: usize = 256;
@@ -20,175 +20,81 @@ pub const MAX_WRITE_HANDLE: usize = 1024;
 
 pub const MAX_ROUTING_TOKEN: usize = 512;
 
+// At most N bytes by value, the first `length` of an array: there is no heap.
 #[derive(Clone, Copy)]
-pub struct Bucket {
-    pub bytes: [u8; MAX_BUCKET],
+pub struct Text<const N: usize> {
+    pub bytes: [u8; N],
     pub length: usize,
 }
 
-impl Bucket {
-    fn new(name: &[u8]) -> Bucket
-        requires { length name.now ≤ 256 }
-        ensures bytes_value { take result.length result.bytes ≡ name.now }
-        ensures length_bound { result.length ≤ 256 }
+impl<const N: usize> Text<N> {
+    fn new(text: &[u8]) -> Text<N>
+        requires { length text.now ≤ N }
+        ensures bytes_value { take result.length result.bytes ≡ text.now }
+        ensures length_bound { result.length ≤ N }
     {
-        let mut bytes = [0u8; MAX_BUCKET];
-        let length = name.len();
-        bytes[..length].copy_from_slice(name);
-        Bucket { bytes, length }
-    }
-}
-
-#[derive(Clone, Copy)]
-pub struct Object {
-    pub bytes: [u8; MAX_OBJECT],
-    pub length: usize,
-}
-
-impl Object {
-    fn new(name: &[u8]) -> Object
-        requires { length name.now ≤ 1024 }
-        ensures bytes_value { take result.length result.bytes ≡ name.now }
-        ensures length_bound { result.length ≤ 1024 }
-    {
-        let mut bytes = [0u8; MAX_OBJECT];
-        let length = name.len();
-        bytes[..length].copy_from_slice(name);
-        Object { bytes, length }
-    }
-}
-
-// An opaque handle, if one is given.
-#[derive(Clone, Copy)]
-pub struct WriteHandle {
-    pub given: bool,
-    pub bytes: [u8; MAX_WRITE_HANDLE],
-    pub length: usize,
-}
-
-impl WriteHandle {
-    fn new(present: bool, handle: &[u8]) -> WriteHandle
-        requires { M.over M.max_handle (given present handle.now) ≡ false }
-        ensures result_value { handle_of result ≡ given present handle.now }
-        ensures length_bound { result.length ≤ 1024 }
-    {
-        let mut bytes = [0u8; MAX_WRITE_HANDLE];
-        if present {
-            let length = handle.len();
-            bytes[..length].copy_from_slice(handle);
-            return WriteHandle {
-                given: present,
-                bytes,
-                length,
-            };
-        }
-        WriteHandle {
-            given: present,
+        let mut bytes = [0u8; N];
+        bytes[..text.len()].copy_from_slice(text);
+        Text {
             bytes,
-            length: 0,
+            length: text.len(),
         }
     }
 
-    // The handle of an opening: a Write form has none.
-    fn opened(append: bool, present: bool, handle: &[u8]) -> WriteHandle
-        requires { M.over M.max_handle (given (append && present) handle.now) ≡ false }
-        ensures result_value { handle_of result ≡ given (append && present) handle.now }
-        ensures length_bound { result.length ≤ 1024 }
+    // Bytes that stand beside a record, which says whether they are given.
+    fn given(present: bool, text: &[u8]) -> Option<Text<N>>
+        requires { M.over N (given present text.now) ≡ false }
+        ensures result_value { text_of result ≡ given present text.now }
+        ensures length_bound { Fits N result }
     {
-        if append {
-            return WriteHandle::new(present, handle);
-        }
-        WriteHandle::new(false, handle)
-    }
-}
-
-// A routing token, if one is given.
-#[derive(Clone, Copy)]
-pub struct RoutingToken {
-    pub given: bool,
-    pub bytes: [u8; MAX_ROUTING_TOKEN],
-    pub length: usize,
-}
-
-impl RoutingToken {
-    fn new(present: bool, token: &[u8]) -> RoutingToken
-        requires { M.over M.max_token (given present token.now) ≡ false }
-        ensures result_value { token_of result ≡ given present token.now }
-        ensures length_bound { result.length ≤ 512 }
-    {
-        let mut bytes = [0u8; MAX_ROUTING_TOKEN];
         if present {
-            let length = token.len();
-            bytes[..length].copy_from_slice(token);
-            return RoutingToken {
-                given: present,
-                bytes,
-                length,
-            };
+            return Some(Text::new(text));
         }
-        RoutingToken {
-            given: present,
-            bytes,
-            length: 0,
-        }
+        None
     }
 }
 
-// A condition on the metageneration.
-#[derive(Clone, Copy)]
-pub enum Condition {
-    Absent,
-    Is(Metageneration),
-}
+pub type Bucket = Text<MAX_BUCKET>;
+
+pub type Object = Text<MAX_OBJECT>;
+
+// Opaque.
+pub type WriteHandle = Text<MAX_WRITE_HANDLE>;
+
+pub type RoutingToken = Text<MAX_ROUTING_TOKEN>;
 
 #[derive(Clone, Copy)]
 pub struct AppendObjectSpec {
     pub bucket: Bucket,
     pub object: Object,
     pub generation: Generation,
-    pub write_handle: WriteHandle,
-    pub routing_token: RoutingToken,
-    pub if_metageneration_match: Condition,
-    pub if_metageneration_not_match: Condition,
+    pub write_handle: Option<WriteHandle>,
+    pub routing_token: Option<RoutingToken>,
+    pub if_metageneration_match: Option<Metageneration>,
+    pub if_metageneration_not_match: Option<Metageneration>,
 }
 
 // The generation that a response states, else the old one.
-fn resource_generation(status: WriteStatus, old: Generation) -> Generation
+fn resource_generation(status: Option<WriteStatus>, old: Generation) -> Generation
     ensures { generation_of result ≡ get_or (M.generation_of (status_of status)) (generation_of old) }
 {
     match status {
-        WriteStatus::Absent => old,
-        WriteStatus::PersistedSize(_) => old,
-        WriteStatus::Resource(resource) => {
-            let g = resource.generation;
-            g
-        }
+        None => old,
+        Some(WriteStatus::PersistedSize(_)) => old,
+        Some(WriteStatus::Resource(resource)) => resource.generation,
     }
 }
 
-// The generation that a redirect names, else the old one.
-fn redirect_generation(new: NewGeneration, old: Generation) -> Generation
-    ensures { generation_of result ≡ get_or (new_generation_of new) (generation_of old) }
-{
-    match new {
-        NewGeneration::Absent => old,
-        NewGeneration::Given(g) => g,
-    }
-}
-
+#[tactic(auto, unfolding(crate::specs::View::spec_of))]
 impl AppendObjectSpec {
     pub fn handle_response(mut self, m: Response, handle: &[u8]) -> AppendObjectSpec
         requires { M.over M.max_handle (response_of m handle.now).write_handle ≡ false }
         ensures result_value { spec_of result ≡ R.noted (response_of m handle.now) (spec_of self) }
         ensures spec_fits { SpecFits self → SpecFits result }
     {
-        let status = m.write_status;
-        let generation = self.generation;
-        let has_handle = m.has_write_handle;
-        self.generation = resource_generation(status, generation);
-        if has_handle {
-            self.write_handle = WriteHandle::new(has_handle, handle);
-            return self;
+        self.generation = resource_generation(m.write_status, self.generation);
+        if m.has_write_handle {
+            self.write_handle = Some(Text::new(handle));
         }
         self
     }
@@ -198,16 +104,11 @@ impl AppendObjectSpec {
         ensures result_value { spec_of result ≡ R.redirected (redirect_of r token.now handle.now) (spec_of self) }
         ensures spec_fits { SpecFits self → SpecFits result }
     {
-        let new_generation = r.generation;
-        let generation = self.generation;
-        let has_handle = r.has_write_handle;
-        let has_token = r.has_routing_token;
-        self.generation = redirect_generation(new_generation, generation);
+        self.generation = r.generation.unwrap_or(self.generation);
         // The token is replaced, even by none; a handle stays unless the redirect has a new one.
-        self.routing_token = RoutingToken::new(has_token, token);
-        if has_handle {
-            self.write_handle = WriteHandle::new(has_handle, handle);
-            return self;
+        self.routing_token = Text::given(r.has_routing_token, token);
+        if r.has_write_handle {
+            self.write_handle = Some(Text::new(handle));
         }
         self
     }
@@ -220,6 +121,7 @@ pub struct AppendObjectSpecState {
     pub spec: AppendObjectSpec,
 }
 
+#[tactic(auto, unfolding(crate::specs::View::spec_of, crate::specs::View::state_of, rules::specs::Spec::handle_response, rules::specs::Spec::handle_redirect))]
 impl AppendObjectSpecState {
     // The state that an opening dials with.
     pub fn new(
@@ -231,8 +133,8 @@ impl AppendObjectSpecState {
         write_handle: &[u8],
         has_routing_token: bool,
         routing_token: &[u8],
-        if_metageneration_match: Condition,
-        if_metageneration_not_match: Condition,
+        if_metageneration_match: Option<Metageneration>,
+        if_metageneration_not_match: Option<Metageneration>,
     ) -> AppendObjectSpecState
         requires bucket_len_bound { length bucket.now ≤ 256 }
         requires object_len_bound { length object.now ≤ 1024 }
@@ -241,16 +143,13 @@ impl AppendObjectSpecState {
         ensures result_value { state_of result ≡ opened append bucket.now object.now (generation_of generation) (given has_write_handle write_handle.now) (given has_routing_token routing_token.now) (condition_of if_metageneration_match) (condition_of if_metageneration_not_match) }
         ensures spec_fits { SpecFits result.spec }
     {
-        let bucket = Bucket::new(bucket);
-        let object = Object::new(object);
-        let write_handle = WriteHandle::opened(append, has_write_handle, write_handle);
-        let routing_token = RoutingToken::new(has_routing_token, routing_token);
         let spec = AppendObjectSpec {
-            bucket,
-            object,
+            bucket: Text::new(bucket),
+            object: Text::new(object),
             generation,
-            write_handle,
-            routing_token,
+            // A Write form has none.
+            write_handle: Text::given(append && has_write_handle, write_handle),
+            routing_token: Text::given(has_routing_token, routing_token),
             if_metageneration_match,
             if_metageneration_not_match,
         };
@@ -263,15 +162,12 @@ impl AppendObjectSpecState {
         ensures result_value { spec_of result ≡ R.handle_response (response_of m handle.now) (state_of self) }
         ensures spec_fits { SpecFits self.spec → SpecFits result }
     {
-        let append = self.append;
         let mut spec = self.spec;
-        if append {
+        if self.append {
             return spec.handle_response(m, handle);
         }
-        let status = m.write_status;
-        let has_handle = m.has_write_handle;
-        spec.generation = resource_generation(status, Generation(0));
-        spec.write_handle = WriteHandle::new(has_handle, handle);
+        spec.generation = resource_generation(m.write_status, Generation(0));
+        spec.write_handle = Text::given(m.has_write_handle, handle);
         spec
     }
 
@@ -281,27 +177,22 @@ impl AppendObjectSpecState {
         ensures result_value { state_of result ≡ R.handle_redirect (redirect_of r token.now handle.now) (state_of self) }
         ensures spec_fits { SpecFits self.spec → SpecFits result.spec }
     {
-        let append = self.append;
         let mut spec = self.spec;
-        if append {
-            let redirected = spec.handle_redirect(r, token, handle);
+        if self.append {
             return AppendObjectSpecState {
                 append: true,
-                spec: redirected,
+                spec: spec.handle_redirect(r, token, handle),
             };
         }
-        let new_generation = r.generation;
-        let has_handle = r.has_write_handle;
-        let has_token = r.has_routing_token;
-        spec.routing_token = RoutingToken::new(has_token, token);
-        match new_generation {
-            NewGeneration::Absent => AppendObjectSpecState {
+        spec.routing_token = Text::given(r.has_routing_token, token);
+        match r.generation {
+            None => AppendObjectSpecState {
                 append: false,
                 spec,
             },
-            NewGeneration::Given(g) => {
-                spec.generation = g;
-                spec.write_handle = WriteHandle::new(has_handle, handle);
+            Some(generation) => {
+                spec.generation = generation;
+                spec.write_handle = Text::given(r.has_write_handle, handle);
                 AppendObjectSpecState { append: true, spec }
             }
         }

@@ -22,23 +22,23 @@ use Rattle.transport.specs.declared.Phase.TheVariants as phase
 use Rattle.transport.specs.declared.Sent.TheVariants as sent
 use Rattle.transport.specs.declared.Answer.TheVariants as answer
 use Rattle.bidi_write.specs.declared.Refusal.{Refusal}
-use Rattle.bidi_write.specs.declared.Check.{Check}
-use Rattle.bidi_write.specs.declared.Check.TheVariants as check
+use Rattle.std.specs.declared.result.Result.{Result}
+use Rattle.std.specs.Prelude.{Ok, Err}
 use Rattle.bidi_write.proofs.Rows.{refused, passed, first_false}
 use Rattle.rules.proofs.Tests.{clash}
-use Rattle.transport.proofs.Refused.{refusal}
+use Rattle.transport.proofs.Refused.{accepted, refusal}
 use Rattle.transport.proofs.First.{over_first, first_free}
 use Rattle.transport.proofs.Numbers.{full_is}
 use Rattle.transport.proofs.Views.{view_phase, valid_phase}
 
-abbrev close_tests : ℕ → Bool → Check
+abbrev close_tests : ℕ → Bool → Result (Unit {0}) Refusal
 close_tests n full = checked (close_rows n full)
 
-rule-refuses : (v : R.Session) (x : Refusal) → close_tests (R.phase_number v.phase) (R.full v) ≡ check.Refuse x → step R.close v ≡ R.answers (R.refused (number_of x)) v
+rule-refuses : (v : R.Session) (x : Refusal) → close_tests (R.phase_number v.phase) (R.full v) ≡ Err x → step R.close v ≡ R.answers (R.refused (number_of x)) v
 unfolding step closes R.unless
 rule-refuses v x e = refused v _ x _ e
 
-rule_accepts : (v : R.Session) → close_tests (R.phase_number v.phase) (R.full v) ≡ check.Go → step R.close v ≡ R.answers R.ok (R.set_phase R.closing R.nothing v)
+rule_accepts : (v : R.Session) → close_tests (R.phase_number v.phase) (R.full v) ≡ Ok tt → step R.close v ≡ R.answers R.ok (R.set_phase R.closing R.nothing v)
 unfolding step closes R.unless
 rule_accepts v e = passed v _ _ e
 
@@ -46,31 +46,28 @@ module _ (s : Session) (store : Bytes) (table : List ℕ) (out : Bytes) (n : ℕ
   abbrev b_full : Bool
   b_full = leb s.worker.replay_buffer.capacity s.worker.replay_buffer.unpersisted_bytes
 
-  at-view : (o : Check) → close_tests n b_full ≡ o → Valid s store table → close_tests (R.phase_number (view s store table).phase) (R.full (view s store table)) ≡ o
+  at-view : (o : Result (Unit {0}) Refusal) → close_tests n b_full ≡ o → Valid s store table → close_tests (R.phase_number (view s store table).phase) (R.full (view s store table)) ≡ o
   unfolding view
   at-view o e v = rw (sym phase_is, sym (full_is s store table v)) e
 
-  pub close-refuses : (x : Refusal) → close_tests n b_full ≡ check.Refuse x → Promise R.close s store table out (record { session = s; answer = answer.Refused x }) store table out
+  pub close-refuses : (x : Refusal) → close_tests n b_full ≡ Err x → Promise R.close s store table out (record { session = s; answer = Err x }) store table out
   close-refuses x e =
-      refusal R.close s store table out x (first_free R.close s store table refl refl (λ f. over_first _ x _ e (ap (λ (k : ℕ). eqb k 6) phase_is ∙ f))) (λ v. rule-refuses (view s store table) x (at-view (check.Refuse x) e v))
+      refusal R.close s store table out x (first_free R.close s store table refl refl (λ f. over_first _ x _ e (ap (λ (k : ℕ). eqb k 6) phase_is ∙ f))) (λ v. rule-refuses (view s store table) x (at-view (Err x) e v))
 
-  pub close_accepts : close_tests n b_full ≡ check.Go
-      → Promise R.close s store table out (record { session = set_phase phase.Closing sent.Nothing s; answer = answer.Accepted }) store table out
+  pub close_accepts : close_tests n b_full ≡ Ok tt
+      → Promise R.close s store table out (record { session = set_phase phase.Closing sent.Nothing s; answer = Ok answer.Accepted }) store table out
   close_accepts e = record {
     first = first_free R.close s store table refl refl (λ f. clash f on);
-    refuses = λ x f. absurd (no_refusal x f);
+    refuses = λ x f. absurd (accepted _ x f);
     store_beyond = refl;
     table_beyond = refl;
     out_beyond = refl;
     takes = omega arith;
     sent_is = refl;
     sent_in = omega arith;
-    steps = λ v. ap (R.answers R.ok) (view_phase phase.Closing sent.Nothing s store table) ∙ sym (rule_accepts (view s store table) (at-view check.Go e v));
+    steps = λ v. ap (R.answers R.ok) (view_phase phase.Closing sent.Nothing s store table) ∙ sym (rule_accepts (view s store table) (at-view (Ok tt) e v));
     stays = λ v. valid_phase phase.Closing sent.Nothing s store table v (λ _. v.followed on) tt;
   }
     where
       on : R.is_ended (phase_of s.phase) ≡ false
       on = ap (λ (k : ℕ). eqb k 6) (sym phase_is) ∙ first_false _ _ _ e
-
-      no_refusal : (x : Refusal) → answer.Accepted ≡ answer.Refused x → ⊥
-      no_refusal x f = let z : ◌≡◌ {A = ℕ} 0 1 = cc in absurd (omega arith)

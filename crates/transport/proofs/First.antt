@@ -17,14 +17,14 @@ use Rattle.rules.proofs.Tests.{clash}
 use Rattle.bidi_write.specs.Refusal.{number_of, Rows, checked}
 use Rattle.bidi_write.specs.declared.Refusal.{Refusal}
 use Rattle.bidi_write.specs.declared.Refusal.TheVariants as refusal
-use Rattle.bidi_write.specs.declared.Check.TheVariants as check
+use Rattle.std.specs.declared.result.Result.{Result}
+use Rattle.std.specs.Prelude.{Err}
+use Rattle.transport.specs.declared.Answer.{Answer}
 use Rattle.bidi_write.proofs.Rows.{same-refusal, no_go}
-use Rattle.transport.specs.View.{phase_of, view}
+use Rattle.transport.specs.View.{Left, phase_of, view}
 use Rattle.transport.specs.Valid.{GuardedAt, Valid, Enters}
 use Rattle.transport.specs.Promise.{asked_by, First, Promise}
 use Rattle.transport.specs.declared.Session.{Session}
-use Rattle.transport.specs.declared.Answer.TheVariants as answer
-use Rattle.transport.specs.declared.Outcome.{Outcome}
 use Rattle.transport.proofs.Refused.{refusal}
 
 -- an append of at least a byte
@@ -49,7 +49,7 @@ ended-refused (R.judge k) v n e = rw e
 ended-refused (R.failed_attempt b k) v n e = rw e
 
 -- the first row is 7
-pub over_first : (b : Bool) (x : Refusal) (rs : Rows) → checked ((b, refusal.Ended) ∷ rs) ≡ check.Refuse x → b ≡ true → answer.Refused x ≡ answer.Refused refusal.Ended
+pub over_first : (b : Bool) (x : Refusal) (rs : Rows) → checked ((b, refusal.Ended) ∷ rs) ≡ Err x → b ≡ true → ◌≡◌ {A = Result Answer Refusal} (Err x) (Err refusal.Ended)
 unfolding checked
 over_first true x rs e f = cc
 over_first false x rs e f = clash f refl
@@ -57,24 +57,24 @@ over_first false x rs e f = clash f refl
 module _ (c : R.Call) (s : Session) (store : Bytes) (table : List ℕ) (some : (asked_by c).empty ≡ false) where
   -- a call that goes on: the session has not ended, and its numbers fit
   pub first_goes : R.is_ended (phase_of s.phase) ≡ false → GuardedAt s (length store) (length table)
-      → {out : Bytes} {r : Outcome} {store' : Bytes} {table' : List ℕ} {out' : Bytes} → First c s store table out r store' table' out'
+      → {out : Bytes} {r : Left} {store' : Bytes} {table' : List ℕ} {out' : Bytes} → First c s store table out r store' table' out'
   first_goes on g = record { empty = λ e. clash e some; over = λ _ e. clash e on; unfit = λ _ _ _ f. absurd (f g) }
 
   -- a call that touches no memory
-  pub first_free : (asked_by c).touches ≡ false → {out : Bytes} {r : Outcome} {store' : Bytes} {table' : List ℕ} {out' : Bytes}
-      → (R.is_ended (phase_of s.phase) ≡ true → r.answer ≡ answer.Refused refusal.Ended) → First c s store table out r store' table' out'
+  pub first_free : (asked_by c).touches ≡ false → {out : Bytes} {r : Left} {store' : Bytes} {table' : List ℕ} {out' : Bytes}
+      → (R.is_ended (phase_of s.phase) ≡ true → r.answer ≡ Err refusal.Ended) → First c s store table out r store' table' out'
   first_free free e = record { empty = λ f. clash f some; over = λ _. e; unfit = λ _ _ f. clash f free }
 
   -- `enter` refuses
-  pub turned_away_lem : (out : Bytes) (x : Refusal) → Enters s (length store) (length table) (check.Refuse x)
-      → Promise c s store table out (record { session = s; answer = answer.Refused x }) store table out
+  pub turned_away_lem : (out : Bytes) (x : Refusal) → Enters s (length store) (length table) (Err x)
+      → Promise c s store table out (record { session = s; answer = Err x }) store table out
   unfolding view
   turned_away_lem out x e =
       refusal c s store table out x
       (record {
         empty = λ f. clash f some;
-        over = λ _ f. ap answer.Refused (same-refusal x refusal.Ended (e.over f));
-        unfit = λ _ f _ g. ap answer.Refused (same-refusal x refusal.ShortMemory (e.unfit f g));
+        over = λ _ f. ap Err (same-refusal x refusal.Ended (e.over f));
+        unfit = λ _ f _ g. ap Err (same-refusal x refusal.ShortMemory (e.unfit f g));
       })
       (λ v. by_end v (R.is_ended (phase_of s.phase)) refl)
     where

@@ -5,7 +5,7 @@ use mathlib.Core.Bool.{true, false}
 use Prim.Native.Nat.{ℕ}
 use Rattle.rules.specs.Session as R
 use Rattle.rules.proofs.Tests.{clash}
-use Rattle.bidi_write.specs.declared.Check.TheVariants as check
+use Rattle.std.specs.Prelude.{Ok, Err}
 use Rattle.bidi_write.specs.declared.Refusal.TheVariants as refusal
 use Rattle.bidi_write.proofs.Rows.{no_go}
 use Rattle.transport.specs.View.{phase_of}
@@ -15,15 +15,12 @@ use Rattle.transport.specs.declared.Session.{Session}
 pub refuse : {P : Type 0} → (P → ⊥) → Decides P false
 refuse f = record { yes = λ e. clash e refl; no = λ _. f }
 
-pub accept : {P : Type 0} → P → Decides P true
-accept p = record { yes = λ _. p; no = λ e. clash refl e }
-
 module _ (s : Session) (store table : ℕ) where
-  pub enters_over : R.is_ended (phase_of s.phase) ≡ true → Enters s store table (check.Refuse refusal.Ended)
+  pub enters_over : R.is_ended (phase_of s.phase) ≡ true → Enters s store table (Err refusal.Ended)
   enters_over e = record { over = λ _. refl; unfit = λ f. clash e f; fits = λ f. clash e f; goes = no_go refusal.Ended }
 
-  pub enters_goes : R.is_ended (phase_of s.phase) ≡ false → GuardedAt s store table → Enters s store table check.Go
+  pub enters_goes : R.is_ended (phase_of s.phase) ≡ false → GuardedAt s store table → Enters s store table (Ok tt)
   enters_goes e g = record { over = λ f. clash f e; unfit = λ _ f. absurd (f g); fits = λ _ _. refl; goes = λ _. (e, g) }
 
-  pub enters_unfit : R.is_ended (phase_of s.phase) ≡ false → (GuardedAt s store table → ⊥) → Enters s store table (check.Refuse refusal.ShortMemory)
+  pub enters_unfit : R.is_ended (phase_of s.phase) ≡ false → (GuardedAt s store table → ⊥) → Enters s store table (Err refusal.ShortMemory)
   enters_unfit e g = record { over = λ f. clash f e; unfit = λ _ _. refl; fits = λ _ f. absurd (g f); goes = no_go refusal.ShortMemory }

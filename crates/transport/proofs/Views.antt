@@ -12,7 +12,8 @@ use Rattle.rules.specs.Session as R
 use Rattle.rules.specs.Notes.{released_in}
 use Rattle.bidi_write.specs.Refusal.{Rows, checked}
 use Rattle.bidi_write.specs.declared.Refusal.{Refusal}
-use Rattle.bidi_write.specs.declared.Check.TheVariants as check
+use Rattle.std.specs.declared.result.Result.{Result}
+use Rattle.std.specs.Prelude.{Ok, Err}
 use Rattle.bidi_write.proofs.Rows.{first_false}
 use Rattle.state.specs.View.{SpecFits}
 use Rattle.connector.specs.declared.Connector.{Connector}
@@ -34,16 +35,16 @@ unfolding view
 view_phase p n s store table = refl
 
 -- the bytes that an answer says were released are the rules'
-pub released_is : (a : Answer) (out : Bytes) → released a ≡ released_in (answer_of a out)
-released_is (answer.Refused x) out = refl
-released_is (answer.Took n r) out = refl
-released_is (answer.Sends r) out = refl
-released_is (answer.Waits r n) out = refl
-released_is (answer.Completes c) out = refl
-released_is (answer.Attempt n) out = refl
-released_is answer.Accepted out = refl
-released_is answer.Done out = refl
-released_is (answer.Ends e) out = refl
+pub released_is : (a : Result Answer Refusal) (out : Bytes) → released a ≡ released_in (answer_of a out)
+released_is (Err x) out = refl
+released_is (Ok (answer.Took n r)) out = refl
+released_is (Ok (answer.Sends r)) out = refl
+released_is (Ok (answer.Waits r n)) out = refl
+released_is (Ok (answer.Completes c)) out = refl
+released_is (Ok (answer.Attempt n)) out = refl
+released_is (Ok answer.Accepted) out = refl
+released_is (Ok answer.Done) out = refl
+released_is (Ok (answer.Ends e)) out = refl
 
 pub valid_phase : (p : Phase) (n : Sent) (s : Session) (store : Bytes) (table : List ℕ) → Valid s store table
     → (R.is_ended (phase_of p) ≡ false → s.worker.connector.redirects_followed ≤ max_redirects)
@@ -78,6 +79,6 @@ valid_renewed c mark p n s store table v fits f at = record {
 }
 
 -- the code goes on: the session has not ended
-pub runs : (s : Session) (n : ℕ) → n ≡ R.phase_number (phase_of s.phase) → (x : Refusal) (rs : Rows) → checked ((eqb n 6, x) ∷ rs) ≡ check.Go
+pub runs : (s : Session) (n : ℕ) → n ≡ R.phase_number (phase_of s.phase) → (x : Refusal) (rs : Rows) → checked ((eqb n 6, x) ∷ rs) ≡ Ok tt
     → R.is_ended (phase_of s.phase) ≡ false
 runs s n e x rs f = ap (λ (k : ℕ). eqb k 6) (sym e) ∙ first_false (eqb n 6) x rs f

@@ -7,12 +7,13 @@ use Rattle.rules.specs.Server.{Stored}
 use Rattle.rules.specs.World.{World}
 use Rattle.rules.specs.Program as rule
 use Rattle.rules.specs.Calls.{Run, CallTurn, AllDidCall, left_by, AlwaysDidCall}
-use Rattle.transport.specs.View.{view, answer_of}
+use Rattle.transport.specs.View.{Left, view, answer_of}
 use Rattle.transport.specs.Valid.{Valid}
 use Rattle.transport.specs.Promise.{Promise}
 use Rattle.transport.specs.declared.Session.{Session}
+use Rattle.std.specs.declared.result.Result.{Result}
+use Rattle.bidi_write.specs.declared.Refusal.{Refusal}
 use Rattle.transport.specs.declared.Answer.{Answer}
-use Rattle.transport.specs.declared.Outcome.{Outcome}
 
 -- the session record with the contents of the lent store and table: "each call gets session, store and table as the last left them; nobody else writes these"
 pub record Memory : Type 0 where
@@ -26,17 +27,17 @@ view_of m = view m.session m.store m.table
 abbrev pub ValidAt : Memory → Type 0
 ValidAt m = Valid m.session m.store m.table
 
--- Says: what is said of a call, from the memory and the out buffer that it was lent to its outcome and to store, table and out buffer as it left them
-module _ (Says : R.Call → Memory → Bytes → Outcome → Bytes → List ℕ → Bytes → Type 0) where
+-- Says: what is said of a call, from the memory and the out buffer that it was lent to the session and answer and to the store, table and out buffer as it left them
+module _ (Says : R.Call → Memory → Bytes → Left → Bytes → List ℕ → Bytes → Type 0) where
   -- so it is said of a call that answered a and left m', with some out buffer
   pub record Does (c : R.Call) (m : Memory) (a : R.Answer) (m' : Memory) : Type 0 where
     pub out : Bytes
     pub out' : Bytes
-    pub answer : Answer
+    pub answer : Result Answer Refusal
     pub answer_is : answer_of answer out' ≡ a
     pub says : Says c m out (record { session = m'.session; answer = answer }) m'.store m'.table out'
 
-abbrev pub Promises : R.Call → Memory → Bytes → Outcome → Bytes → List ℕ → Bytes → Type 0
+abbrev pub Promises : R.Call → Memory → Bytes → Left → Bytes → List ℕ → Bytes → Type 0
 Promises c m out r store table out' = Promise c m.session m.store m.table out r store table out'
 
 -- an accepted opening

@@ -4,6 +4,7 @@ use Rattle.rules.specs.Message.{Bytes}
 use Rattle.rules.specs.Session as R
 use Rattle.bidi_write.specs.View.{cause_of}
 use Rattle.bidi_write.specs.declared.Cause.{Cause}
+use Rattle.std.specs.Prelude.{Ok}
 use Rattle.transport.specs.View.{view, answer_of}
 use Rattle.transport.specs.Valid.{Valid}
 use Rattle.transport.specs.declared.Answer.TheVariants as answer
@@ -15,45 +16,18 @@ use Rattle.connector.specs.declared.Connector.{Connector}
 use Rattle.worker.specs.declared.Worker.{Worker}
 
 abbrev pub set_phase : Phase → Sent → Session → Session
-set_phase p n s = record {
-  limit = s.limit;
-  slots = s.slots;
-  phase = p;
-  sent = n;
-  made = s.made;
-  write_offset = s.write_offset;
-  running_crc32c = s.running_crc32c;
-  held = s.held;
-  worker = s.worker;
-}
+set_phase p n s = record s { phase = p; sent = n }
 
 abbrev pub set_worker : Worker → Session → Session
-set_worker w s = record {
-  limit = s.limit;
-  slots = s.slots;
-  phase = s.phase;
-  sent = s.sent;
-  made = s.made;
-  write_offset = s.write_offset;
-  running_crc32c = s.running_crc32c;
-  held = s.held;
-  worker = w;
-}
+set_worker w s = record s { worker = w }
 
 -- connector, mark and phase anew
 abbrev pub renewed : Connector → Bool → Phase → Sent → Session → Session
-renewed c mark p n s = set_phase p n (set_worker (record {
-  connector = c;
-  replay_buffer = s.worker.replay_buffer;
-  pending_requests = s.worker.pending_requests;
-  persisted_size = s.worker.persisted_size;
-  finalized = s.worker.finalized;
-  self_flush_outstanding = mark;
-}) s)
+renewed c mark p n s = set_phase p n (set_worker (record s.worker { connector = c; self_flush_outstanding = mark }) s)
 
 -- r is the session s ended, as the rules end it
 pub record EndsAs (c : Cause) (completed released : ℕ) (s : Session) (r : Outcome) : Type 0 where
   pub answer_is : r.answer ≡ answer.Ends (record { cause = c; completed = completed; released = released; failed = s.worker.pending_requests.count })
   pub ends : (store : Bytes) (table : List ℕ) (out : Bytes) → Valid s store table
-      → R.answers (answer_of r.answer out) (view r.session store table) ≡ R.ending (cause_of c) completed released (view s store table)
+      → R.answers (answer_of (Ok r.answer) out) (view r.session store table) ≡ R.ending (cause_of c) completed released (view s store table)
   pub stays : (store : Bytes) (table : List ℕ) → Valid s store table → Valid r.session store table

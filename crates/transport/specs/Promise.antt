@@ -6,21 +6,21 @@ use Rattle.rules.specs.Step.{step}
 use Rattle.rules.specs.Notes.{request_in, data_in}
 use Rattle.bidi_write.specs.declared.Refusal.{Refusal}
 use Rattle.bidi_write.specs.declared.Refusal.TheVariants as refusal
-use Rattle.transport.specs.View.{phase_of, lent_of, view, answer_of, taken_in, sent_length}
+use Rattle.transport.specs.View.{Left, phase_of, lent_of, view, answer_of, taken_in, sent_length}
 use Rattle.transport.specs.Valid.{GuardedAt, Valid}
 use Rattle.transport.specs.declared.Session.{Session}
 use Rattle.transport.specs.declared.Answer.{Answer}
 use Rattle.transport.specs.declared.Answer.TheVariants as answer
-use Rattle.transport.specs.declared.MaybeRequest.TheVariants as maybe
-use Rattle.transport.specs.declared.Outcome.{Outcome}
+use Rattle.std.specs.declared.result.Result.{Result}
+use Rattle.std.specs.Prelude.{None, Ok, Err}
 
 -- the data that an answer sends
-abbrev pub sent_data : Answer → Bytes → Bytes
+abbrev pub sent_data : Result Answer Refusal → Bytes → Bytes
 sent_data a out = data_in (request_in (answer_of a out))
 
 -- an answer that refuses nothing, takes no byte and sends no data
-pub record Quiet (a : Answer) : Type 0 where
-  pub accepts : (x : Refusal) → a ≡ answer.Refused x → ⊥
+pub record Quiet (a : Result Answer Refusal) : Type 0 where
+  pub accepts : (x : Refusal) → a ≡ Err x → ⊥
   pub none_taken : taken_in a ≡ 0
   pub none_sent : sent_length a ≡ 0
   pub has_no_data : (out : Bytes) → sent_data a out ≡ []
@@ -48,23 +48,23 @@ asked_by (R.judge v) = asking false
 asked_by (R.failed_attempt b v) = asking false
 
 -- for any input whatever: what is answered before the rules are asked
-pub record First (c : R.Call) (s : Session) (store : Bytes) (table : List ℕ) (out : Bytes) (r : Outcome) (store' : Bytes) (table' : List ℕ) (out' : Bytes) : Type 0 where
+pub record First (c : R.Call) (s : Session) (store : Bytes) (table : List ℕ) (out : Bytes) (r : Left) (store' : Bytes) (table' : List ℕ) (out' : Bytes) : Type 0 where
   -- "An append of nothing is always accepted, even after the end, takes 0 and changes nothing."
   pub empty : (asked_by c).empty ≡ true
-      → (r ≡ record { session = s; answer = answer.Took 0 maybe.Absent }) × (store' ≡ store) × (table' ≡ table) × (out' ≡ out)
+      → (r ≡ record { session = s; answer = Ok (answer.Took 0 None) }) × (store' ≡ store) × (table' ≡ table) × (out' ≡ out)
   -- 7 from a session that has ended, whatever is lent
-  pub over : (asked_by c).empty ≡ false → R.is_ended (phase_of s.phase) ≡ true → r.answer ≡ answer.Refused refusal.Ended
+  pub over : (asked_by c).empty ≡ false → R.is_ended (phase_of s.phase) ≡ true → r.answer ≡ Err refusal.Ended
   -- 2 where the call touches memory that is too short, or that the record's numbers don't fit
   pub unfit : (asked_by c).empty ≡ false → R.is_ended (phase_of s.phase) ≡ false → (asked_by c).touches ≡ true
-      → (GuardedAt s (length store) (length table) → ⊥) → r.answer ≡ answer.Refused refusal.ShortMemory
+      → (GuardedAt s (length store) (length table) → ⊥) → r.answer ≡ Err refusal.ShortMemory
 
 -- The call c, from a session with its store, table and out buffer to what it left of them. Free, since no view shows it: where in ring and table the stored
 -- bytes and words begin, places of waiters that nobody waits at, bytes and words that are stored no more, and what an array has behind a name, token or handle.
 -- Free is too what the rules would answer a record that fits its memory but that no call left.
-pub record Promise (c : R.Call) (s : Session) (store : Bytes) (table : List ℕ) (out : Bytes) (r : Outcome) (store' : Bytes) (table' : List ℕ) (out' : Bytes) : Type 0 where
+pub record Promise (c : R.Call) (s : Session) (store : Bytes) (table : List ℕ) (out : Bytes) (r : Left) (store' : Bytes) (table' : List ℕ) (out' : Bytes) : Type 0 where
   pub first : First c s store table out r store' table' out'
   -- for any input whatever: a refused call changes nothing
-  pub refuses : (x : Refusal) → r.answer ≡ answer.Refused x → (r.session ≡ s) × (store' ≡ store) × (table' ≡ table) × (out' ≡ out)
+  pub refuses : (x : Refusal) → r.answer ≡ Err x → (r.session ≡ s) × (store' ≡ store) × (table' ≡ table) × (out' ≡ out)
   -- for any input whatever: no more is taken than is offered
   pub takes : taken_in r.answer ≤ length (asked_by c).offered
   -- for any input whatever: what is lent beyond the ring, the slots and the data sent is untouched
@@ -79,9 +79,9 @@ pub record Promise (c : R.Call) (s : Session) (store : Bytes) (table : List ℕ)
   pub stays : Valid s store table → Valid r.session store' table'
 
 -- the same of a call that is lent no memory: whatever the memory holds
-abbrev pub Promised : R.Call → Session → Outcome → Type 0
+abbrev pub Promised : R.Call → Session → Left → Type 0
 Promised c s r = (store : Bytes) (table : List ℕ) (out : Bytes) → Promise c s store table out r store table out
 
 -- the same of a call that is lent no out buffer
-abbrev pub PromisedAt : R.Call → Session → Bytes → List ℕ → Outcome → List ℕ → Type 0
+abbrev pub PromisedAt : R.Call → Session → Bytes → List ℕ → Left → List ℕ → Type 0
 PromisedAt c s store table r table' = (out : Bytes) → Promise c s store table out r store table' out

@@ -5,8 +5,9 @@ use Rattle.rules.specs.Limits.{max_chunk, max_capacity, max_waiters, max_redirec
 use Rattle.rules.specs.Message.{Bytes}
 use Rattle.rules.specs.Session as R
 use Rattle.bidi_write.specs.Numbers.{to_ℕ}
-use Rattle.bidi_write.specs.declared.Check.{Check}
-use Rattle.bidi_write.specs.declared.Check.TheVariants as check
+use Rattle.std.specs.declared.result.Result.{Result}
+use Rattle.std.specs.Prelude.{Ok, Err}
+use Rattle.bidi_write.specs.declared.Refusal.{Refusal}
 use Rattle.bidi_write.specs.declared.Refusal.TheVariants as refusal
 use Rattle.state.specs.View.{SpecFits}
 use Rattle.replay_buffer.specs.View.{words_of, total, Sound}
@@ -75,8 +76,8 @@ pub record Decides (P : Type 0) (b : Bool) : Type 0 where
   pub no : b ≡ false → P → ⊥
 
 -- what is asked before memory is touched: 7 whatever is lent, then 2 where the numbers don't fit
-pub record Enters (s : Session) (store table : ℕ) (r : Check) : Type 0 where
-  pub over : R.is_ended (phase_of s.phase) ≡ true → r ≡ check.Refuse refusal.Ended
-  pub unfit : R.is_ended (phase_of s.phase) ≡ false → (GuardedAt s store table → ⊥) → r ≡ check.Refuse refusal.ShortMemory
-  pub fits : R.is_ended (phase_of s.phase) ≡ false → GuardedAt s store table → r ≡ check.Go
-  pub goes : r ≡ check.Go → (R.is_ended (phase_of s.phase) ≡ false) × GuardedAt s store table
+pub record Enters (s : Session) (store table : ℕ) (r : Result (Unit {0}) Refusal) : Type 0 where
+  pub over : R.is_ended (phase_of s.phase) ≡ true → r ≡ Err refusal.Ended
+  pub unfit : R.is_ended (phase_of s.phase) ≡ false → (GuardedAt s store table → ⊥) → r ≡ Err refusal.ShortMemory
+  pub fits : R.is_ended (phase_of s.phase) ≡ false → GuardedAt s store table → r ≡ Ok tt
+  pub goes : r ≡ Ok tt → (R.is_ended (phase_of s.phase) ≡ false) × GuardedAt s store table

@@ -8,6 +8,10 @@ use Rattle.rules.specs.Session as R
 use Rattle.ring.specs.Ring.{part}
 use Rattle.bidi_write.specs.Numbers.{to_ℕ}
 use Rattle.bidi_write.specs.Refusal.{number_of}
+use Rattle.bidi_write.specs.declared.Refusal.{Refusal}
+use Rattle.bidi_write.specs.declared.Request.{Request}
+use Rattle.std.specs.declared.result.Result.{Result}
+use Rattle.std.specs.Prelude.{Ok, Err}
 use Rattle.bidi_write.specs.View.{checksum_of, length_of, request_of, cause_of}
 use Rattle.replay_buffer.specs.View.{Lent}
 use Rattle.replay_buffer.specs.declared.ReplayBuffer.{ReplayBuffer}
@@ -17,9 +21,10 @@ use Rattle.transport.specs.declared.Phase.TheVariants as phase
 use Rattle.transport.specs.declared.Sent.{Sent}
 use Rattle.transport.specs.declared.Sent.TheVariants as sent
 use Rattle.transport.specs.declared.Session.{Session}
-use Rattle.transport.specs.declared.MaybeRequest.{MaybeRequest}
-use Rattle.transport.specs.declared.MaybeRequest.TheVariants as maybe
+use Rattle.std.specs.declared.option.Option as opt
+use Rattle.std.specs.Prelude.{Some, None}
 use Rattle.transport.specs.declared.Answer.{Answer}
+use Rattle.transport.specs.declared.Outcome.{Outcome}
 use Rattle.transport.specs.declared.Answer.TheVariants as answer
 
 abbrev pub phase_of : Phase → R.Phase
@@ -61,62 +66,72 @@ view s store table = record {
   worker = worker_of (lent_of s) (end_of s) s.worker store table;
 }
 
-abbrev pub maybe_of : MaybeRequest → Bytes → Option M.Request
-maybe_of maybe.Absent out = none
-maybe_of (maybe.Present r) out = some (request_of r out)
+abbrev pub maybe_of : opt.Option Request → Bytes → Option M.Request
+maybe_of None out = none
+maybe_of (Some r) out = some (request_of r out)
 
--- an answer, with the out buffer as the call left it
-abbrev pub answer_of : Answer → Bytes → R.Answer
-answer_of (answer.Refused x) out = R.refused (number_of x)
-answer_of (answer.Took n r) out = R.took n (maybe_of r out)
-answer_of (answer.Sends r) out = R.sends (request_of r out)
-answer_of (answer.Waits r n) out = R.waits (request_of r out) n
-answer_of (answer.Completes c) out = R.completes c.waiters c.released (maybe_of c.request out)
-answer_of (answer.Attempt n) out = R.attempt n
-answer_of answer.Accepted out = R.ok
-answer_of answer.Done out = R.done
-answer_of (answer.Ends e) out = R.ends (cause_of e.cause) e.completed e.released e.failed
+-- what a call left: the session, and its answer or refusal
+pub record Left : Type 0 where
+  pub session : Session
+  pub answer : Result Answer Refusal
+
+-- of a call by value: one that is refused leaves the session as it was
+abbrev pub left : Session → Result Outcome Refusal → Left
+left s (Ok o) = record { session = o.session; answer = Ok o.answer }
+left s (Err x) = record { session = s; answer = Err x }
+
+-- an answer or a refusal, with the out buffer as the call left it
+abbrev pub answer_of : Result Answer Refusal → Bytes → R.Answer
+answer_of (Err x) out = R.refused (number_of x)
+answer_of (Ok (answer.Took n r)) out = R.took n (maybe_of r out)
+answer_of (Ok (answer.Sends r)) out = R.sends (request_of r out)
+answer_of (Ok (answer.Waits r n)) out = R.waits (request_of r out) n
+answer_of (Ok (answer.Completes c)) out = R.completes c.waiters c.released (maybe_of c.request out)
+answer_of (Ok (answer.Attempt n)) out = R.attempt n
+answer_of (Ok answer.Accepted) out = R.ok
+answer_of (Ok answer.Done) out = R.done
+answer_of (Ok (answer.Ends e)) out = R.ends (cause_of e.cause) e.completed e.released e.failed
 
 -- the bytes that an answer says were taken
-abbrev pub taken_in : Answer → ℕ
-taken_in (answer.Refused x) = 0
-taken_in (answer.Took n r) = n
-taken_in (answer.Sends r) = 0
-taken_in (answer.Waits r n) = 0
-taken_in (answer.Completes c) = 0
-taken_in (answer.Attempt n) = 0
-taken_in answer.Accepted = 0
-taken_in answer.Done = 0
-taken_in (answer.Ends e) = 0
+abbrev pub taken_in : Result Answer Refusal → ℕ
+taken_in (Err x) = 0
+taken_in (Ok (answer.Took n r)) = n
+taken_in (Ok (answer.Sends r)) = 0
+taken_in (Ok (answer.Waits r n)) = 0
+taken_in (Ok (answer.Completes c)) = 0
+taken_in (Ok (answer.Attempt n)) = 0
+taken_in (Ok answer.Accepted) = 0
+taken_in (Ok answer.Done) = 0
+taken_in (Ok (answer.Ends e)) = 0
 
 -- the bytes that it says were released
-abbrev pub released : Answer → ℕ
-released (answer.Refused x) = 0
-released (answer.Took n r) = 0
-released (answer.Sends r) = 0
-released (answer.Waits r n) = 0
-released (answer.Completes c) = c.released
-released (answer.Attempt n) = 0
-released answer.Accepted = 0
-released answer.Done = 0
-released (answer.Ends e) = e.released
+abbrev pub released : Result Answer Refusal → ℕ
+released (Err x) = 0
+released (Ok (answer.Took n r)) = 0
+released (Ok (answer.Sends r)) = 0
+released (Ok (answer.Waits r n)) = 0
+released (Ok (answer.Completes c)) = c.released
+released (Ok (answer.Attempt n)) = 0
+released (Ok answer.Accepted) = 0
+released (Ok answer.Done) = 0
+released (Ok (answer.Ends e)) = e.released
 
-abbrev pub maybe_length : MaybeRequest → ℕ
-maybe_length maybe.Absent = 0
-maybe_length (maybe.Present r) = length_of r.«data»
+abbrev pub maybe_length : opt.Option Request → ℕ
+maybe_length None = 0
+maybe_length (Some r) = length_of r.«data»
 
 -- the request that an answer hands out
-abbrev pub handed : Answer → MaybeRequest
-handed (answer.Refused x) = maybe.Absent
-handed (answer.Took n r) = r
-handed (answer.Sends r) = maybe.Present r
-handed (answer.Waits r n) = maybe.Present r
-handed (answer.Completes c) = c.request
-handed (answer.Attempt n) = maybe.Absent
-handed answer.Accepted = maybe.Absent
-handed answer.Done = maybe.Absent
-handed (answer.Ends e) = maybe.Absent
+abbrev pub handed : Result Answer Refusal → opt.Option Request
+handed (Err x) = None
+handed (Ok (answer.Took n r)) = r
+handed (Ok (answer.Sends r)) = Some r
+handed (Ok (answer.Waits r n)) = Some r
+handed (Ok (answer.Completes c)) = c.request
+handed (Ok (answer.Attempt n)) = None
+handed (Ok answer.Accepted) = None
+handed (Ok answer.Done) = None
+handed (Ok (answer.Ends e)) = None
 
 -- the length that it gives its data
-abbrev pub sent_length : Answer → ℕ
+abbrev pub sent_length : Result Answer Refusal → ℕ
 sent_length a = maybe_length (handed a)

@@ -4,44 +4,35 @@ ghost use Rattle.transport.specs.Valid.{Guarded, GuardedAt, Decides, Enters};
 use crate::Session;
 use crate::phases::phase_number;
 use admission::ENDED;
-use bidi_write::{Check, MAX_CAPACITY, MAX_WRITE_CHUNK_SIZE, Offset, Refusal};
+use bidi_write::{MAX_CAPACITY, MAX_WRITE_CHUNK_SIZE, Offset, Refusal, refuse_if};
 use replay_buffer::ReplayBuffer;
 use worker::MAX_PENDING;
 
 // 7 whatever is lent, then 2 for a record or memory that no call left.
-pub fn enter(s: Session, store: usize, table: usize) -> Check
+pub fn enter(s: Session, store: usize, table: usize) -> Result<(), Refusal>
     ensures { Enters s store table result }
 {
-    let p = s.phase;
-    if phase_number(p) == ENDED {
-        return Check::Refuse(Refusal::Ended);
-    }
-    if guard(s, store, table) {
-        return Check::Go;
-    }
-    Check::Refuse(Refusal::ShortMemory)
+    refuse_if(phase_number(s.phase) == ENDED, Refusal::Ended)?;
+    refuse_if(!guard(s, store, table), Refusal::ShortMemory)
 }
 
 // Whether a record stays within a store and a table of these lengths.
 fn guard(s: Session, store: usize, table: usize) -> bool
     ensures { Decides (GuardedAt s store table) result }
 {
-    let write_offset = s.write_offset;
-    let b = s.worker.replay_buffer;
-    let waiting = s.worker.pending_requests.count;
     within(
         s.limit,
         s.slots,
         s.held,
-        write_offset,
-        b,
-        waiting,
+        s.write_offset,
+        s.worker.replay_buffer,
+        s.worker.pending_requests.count,
         store,
         table,
     )
 }
 
-// Its numbers.
+// Its numbers, test by test: of one chain of tests the proof did not close.
 fn within(
     limit: usize,
     slots: usize,
@@ -54,21 +45,19 @@ fn within(
 ) -> bool
     ensures { Decides (Guarded limit slots held write_offset.0 b waiting store table) result }
 {
-    let capacity = b.capacity;
-    let stored = b.unpersisted_bytes;
     if limit == 0 {
         return false;
     }
     if MAX_WRITE_CHUNK_SIZE < limit {
         return false;
     }
-    if capacity <= 2 * limit {
+    if b.capacity <= 2 * limit {
         return false;
     }
-    if MAX_CAPACITY < capacity {
+    if MAX_CAPACITY < b.capacity {
         return false;
     }
-    let size = replay_buffer::ring_size(capacity, limit);
+    let size = replay_buffer::ring_size(b.capacity, limit);
     if store < size {
         return false;
     }
@@ -78,7 +67,7 @@ fn within(
     if size <= b.head {
         return false;
     }
-    if capacity + limit <= stored {
+    if b.capacity + limit <= b.unpersisted_bytes {
         return false;
     }
     if limit <= held {
@@ -96,8 +85,5 @@ fn within(
     if bidi_write::is_negative(write_offset) {
         return false;
     }
-    if bidi_write::to_nat(write_offset) < stored as u64 {
-        return false;
-    }
-    true
+    b.unpersisted_bytes as u64 <= bidi_write::to_nat(write_offset)
 }

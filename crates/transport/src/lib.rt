@@ -7,7 +7,7 @@ pub mod guard;
 pub mod parts;
 pub mod phases;
 
-use bidi_write::{Cause, Checksum, Offset, Refusal, Request};
+use bidi_write::{Cause, Offset, Request};
 use worker::Worker;
 
 // How far a replay has come: the next request, and the bytes of the chunks before it.
@@ -47,16 +47,10 @@ pub struct Session {
     // waiters made so far
     pub made: u64,
     pub write_offset: Offset,
-    pub running_crc32c: Checksum,
+    pub running_crc32c: Option<u32>,
     // bytes held, which lie behind the stored ones
     pub held: usize,
     pub worker: Worker,
-}
-
-#[derive(Clone, Copy)]
-pub enum MaybeRequest {
-    Absent,
-    Present(Request),
 }
 
 // Waiters completed, lowest numbers first, bytes released, and a bare flush.
@@ -64,7 +58,7 @@ pub enum MaybeRequest {
 pub struct Completed {
     pub waiters: usize,
     pub released: usize,
-    pub request: MaybeRequest,
+    pub request: Option<Request>,
 }
 
 // Why a session ended, the waiters completed and the bytes released before, and the waiters that failed or were dropped.
@@ -76,12 +70,11 @@ pub struct Ending {
     pub failed: usize,
 }
 
-// What a call answers. A refused call changes nothing.
+// What an accepted call answers.
 #[derive(Clone, Copy)]
 pub enum Answer {
-    Refused(Refusal),
     // append: bytes taken, and the request of the chunk that was cut
-    Took(usize, MaybeRequest),
+    Took(usize, Option<Request>),
     // flush, finalise: held bytes were cut, call again; next request: the one to send
     Sends(Request),
     // flush, finalise: the request, and the number of the waiter made
@@ -98,6 +91,7 @@ pub enum Answer {
     Ends(Ending),
 }
 
+// What an accepted call leaves and answers. A refused one leaves the session as it was.
 #[derive(Clone, Copy)]
 pub struct Outcome {
     pub session: Session,

@@ -10,26 +10,22 @@ use worker::{PendingRequests, Worker};
 pub fn set_phase(s: Session, p: Phase, n: Sent) -> Session
     ensures { result ≡ set_phase p n s }
 {
-    let worker = s.worker;
-    renew(s, worker, p, n)
+    Session {
+        phase: p,
+        sent: n,
+        ..s
+    }
 }
 
 // Another worker, phase and note of what was sent.
 pub fn renew(s: Session, w: Worker, p: Phase, n: Sent) -> Session
     ensures { result ≡ set_phase p n (set_worker w s) }
 {
-    let write_offset = s.write_offset;
-    let running_crc32c = s.running_crc32c;
     Session {
-        limit: s.limit,
-        slots: s.slots,
         phase: p,
         sent: n,
-        made: s.made,
-        write_offset,
-        running_crc32c,
-        held: s.held,
         worker: w,
+        ..s
     }
 }
 
@@ -37,20 +33,16 @@ pub fn renew(s: Session, w: Worker, p: Phase, n: Sent) -> Session
 pub fn end(s: Session, cause: Cause, completed: usize, released: usize) -> Outcome
     ensures { EndsAs cause completed released s result }
 {
-    let w = s.worker;
-    let q = w.pending_requests;
-    let failed = q.count;
-    let finalized = w.finalized;
-    let none = PendingRequests::new();
-    let after = w.set_pending(none, finalized);
-    let t = renew(s, after, Phase::Ended(cause), Sent::Nothing);
+    let none = s
+        .worker
+        .set_pending(PendingRequests::new(), s.worker.finalized);
     Outcome {
-        session: t,
+        session: renew(s, none, Phase::Ended(cause), Sent::Nothing),
         answer: Answer::Ends(Ending {
             cause,
             completed,
             released,
-            failed,
+            failed: s.worker.pending_requests.count,
         }),
     }
 }

@@ -12,13 +12,14 @@ use Rattle.rules.specs.Message.{Bytes, ChecksummedData, Request}
 use Rattle.rules.specs.Upload.{chunk_request}
 use Rattle.rules.specs.Notes.{content_of}
 use Rattle.bidi_write.specs.View.{data_of, length_of, request_of}
-use Rattle.bidi_write.specs.declared.Data.{Data}
-use Rattle.bidi_write.specs.declared.Data.TheVariants as payload
+use Rattle.std.specs.declared.option.Option as opt
+use Rattle.std.specs.Prelude.{Some, None}
+use Rattle.bidi_write.specs.declared.ChecksummedData as code-data
 use Rattle.bidi_write.specs.declared.Request as code
 
-absent : (d : Data) (out : Bytes) → data_of d out ≡ none → length_of d ≡ 0
-absent payload.Absent out e = refl
-absent (payload.Checksummed d) out e = let z : ◌≡◌ {A = ℕ} 0 1 = cc in absurd (omega arith)
+absent : (d : opt.Option code-data.ChecksummedData) (out : Bytes) → data_of d out ≡ none → length_of d ≡ 0
+absent None out e = refl
+absent (Some d) out e = let z : ◌≡◌ {A = ℕ} 0 1 = cc in absurd (omega arith)
 
 -- a request without data
 pub no_length : (r : code.Request) (out : Bytes) (q : Request) → request_of r out ≡ q → q.checksummed_data ≡ none → length_of r.«data» ≡ 0
@@ -26,9 +27,9 @@ unfolding request_of
 no_length r out q e f = absent r.«data» out (ap (λ (x : Request). x.checksummed_data) e ∙ f)
 
 -- the first n bytes of an out buffer that is longer than either
-first : (d : Data) (n sum : ℕ) → ((out : Bytes) → data_of d out ≡ some (record { content = take n out; crc32c = sum })) → length_of d ≡ n
-first payload.Absent n sum e = let f = e [] in let z : ◌≡◌ {A = ℕ} 0 1 = cc in absurd (omega arith)
-first (payload.Checksummed d) n sum e =
+first : (d : opt.Option code-data.ChecksummedData) (n sum : ℕ) → ((out : Bytes) → data_of d out ≡ some (record { content = take n out; crc32c = sum })) → length_of d ≡ n
+first None n sum e = let f = e [] in let z : ◌≡◌ {A = ℕ} 0 1 = cc in absurd (omega arith)
+first (Some d) n sum e =
     let out : Bytes = replicate (d.length + n) 0 in
     let long : length out ≡ d.length + n = length-replicate (d.length + n) 0 in
     let same : length (take d.length out) ≡ length (take n out) = ap (λ (o : Option ChecksummedData). length (content_of o)) (e out) in

@@ -81,7 +81,7 @@ request_for-at kind.Finalize at sum = refl
 
 -- a request whose offset the size does not reach, and one whose offset it reaches
 module _ (n : ℤ) (finalised : Bool) (p : PendingRequest) where
-  satisfied_is : is_satisfied n finalised (pending_of p) ≡ (not (lt_z n p.write_offset.0) && wants (kind_of p.kind) finalised)
+  pub satisfied_is : is_satisfied n finalised (pending_of p) ≡ (not (lt_z n p.write_offset.0) && wants (kind_of p.kind) finalised)
   unfolding is_satisfied
   satisfied_is = rw (request_for-at p.kind, le_z_is)
 

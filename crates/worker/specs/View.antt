@@ -6,7 +6,7 @@ use Rattle.rules.specs.Message.{Bytes, Request}
 use Rattle.rules.specs.Session as R
 use Rattle.rules.specs.Upload.{flush_request, finish_request}
 use Rattle.bidi_write.specs.View.{checksum_of}
-use Rattle.bidi_write.specs.declared.Checksum.TheVariants as checksum
+use Rattle.std.specs.Prelude.{None}
 use Rattle.connector.specs.View.{connector_of}
 use Rattle.replay_buffer.specs.View.{Lent, queue_of}
 use Rattle.worker.specs.declared.PendingKind.{PendingKind}
@@ -32,7 +32,7 @@ waiters_of q = map pending_of (take q.count q.requests)
 -- none waits, and the places are all alike
 unfoldable pub no_waiters : PendingRequests
 no_waiters = record {
-  requests = replicate max_waiters (record { kind = kind.Flush; write_offset = record { 0 = pos 0 }; object_checksums = checksum.Unknown });
+  requests = replicate max_waiters (record { kind = kind.Flush; write_offset = record { 0 = pos 0 }; object_checksums = None });
   count = 0;
 }
 

@@ -1,16 +1,20 @@
-use mathlib.Core.Path.{sym, ◌∙◌}
+use mathlib.Core.Path.{◌≡◌, sym, ◌∙◌}
+use native.Mathlib.Omega.{arith}
+use Rattle.std.specs.Prelude.{Err}
 use Rattle.transport.proofs.Closing.{close-refuses, close_accepts}
 use Rattle.transport.proofs.close.close.Goals as goal
 
-pub returns-in-Refuse : goal.returns-in-Refuse
-returns-in-Refuse c =
+pub returns-in_err-close : goal.returns-in_err-close
+returns-in_err-close c =
     λ store table out.
-    close-refuses c.args.s store table out c.phase_number-phase.result c.phase_number-phase.ensures _
-    (rw c.is_full.ensures at (sym c.close-way.ensures ∙ c.in-Refuse.is))
+    let refused : c.from_residual.result ≡ Err c.in_err-close.field-0.0 = grind arith in
+    rw refused
+    (close-refuses c.args.s store table out c.phase_number.result c.phase_number.ensures _
+    (rw c.is_full.ensures at (sym c.close.ensures ∙ c.in_err-close.was)))
 
-pub returns-in-Go : goal.returns-in-Go
-returns-in-Go c =
+pub returns : goal.returns
+returns c =
     λ store table out.
-    rw c.set_phase-t.ensures
-    (close_accepts c.args.s store table out c.phase_number-phase.result c.phase_number-phase.ensures
-    (rw c.is_full.ensures at (sym c.close-way.ensures ∙ c.in-Go.is)))
+    rw c.set_phase.ensures
+    (close_accepts c.args.s store table out c.phase_number.result c.phase_number.ensures
+    (rw c.is_full.ensures at (sym c.close.ensures ∙ c.in_ok-close.was)))

@@ -4,5 +4,5 @@ use Rattle.transport.proofs.parts.end.Goals as goal
 
 pub returns : goal.returns
 returns c =
-    rw (c.renew-t.ensures, c.set_pending-after.ensures.value)
-    (ends_as c.args.cause c.args.completed c.args.released c.args.s c.new-none.result (rw c.new-none.ensures none_waits) (rw c.new-none.ensures none-counted))
+    rw (c.renew.ensures, c.set_pending-none.ensures.value)
+    (ends_as c.args.cause c.args.completed c.args.released c.args.s c.new.result (rw c.new.ensures none_waits) (rw c.new.ensures none-counted))

@@ -1,3 +1,4 @@
+use borrow.Author.Rules.{rules}
 use mathlib.Core.Path.{◌≡◌, ap, ◌∙◌}
 use mathlib.Core.Option.{some}
 use Prim.Native.Nat.{◌<◌}
@@ -13,6 +14,6 @@ use Rattle.worker.proofs.PendingRequests.nth.Goals as goal
 pub returns : goal.returns
 unfolding waiters_of
 returns c =
-    let array : length c.args.self.requests ≡ max_waiters = c.well_formed.0.1.1.0.1.0.1 in
+    let array : length c.args.self.requests ≡ max_waiters = search rules in
     let h : c.args.i < length (take c.args.self.count c.args.self.requests) = simp length-take (omega arith) in
     element_map pending_of (take c.args.self.count c.args.self.requests) c.args.i _ h ∙ ap (λ (p : PendingRequest). some (pending_of p)) (get_or-take c.args.self.count c.args.self.requests c.args.i _ (omega arith))

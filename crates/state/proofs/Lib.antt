@@ -1,4 +1,0 @@
-pub mod Copied
-pub mod Opened
-pub mod Overlong
-pub mod Renewed

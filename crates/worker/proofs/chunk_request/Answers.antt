@@ -1,7 +1,0 @@
-use mathlib.Core.Path.{refl}
-use Rattle.bidi_write.specs.View.{request_of}
-use Rattle.worker.proofs.chunk_request.Goals as goal
-
-pub returns : goal.returns
-unfolding request_of
-returns c = λ out. refl
