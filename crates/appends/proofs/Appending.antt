@@ -27,14 +27,15 @@ use Rattle.transport.specs.View.{phase_of, lent_of, end_of, held_of, view}
 use Rattle.transport.specs.Valid.{GuardedAt, Valid}
 use Rattle.transport.specs.Promise.{Promise}
 use Rattle.cuts.specs.Cut.{chunk_at, CutRoom, Cuts}
-use Rattle.appends.specs.Append.{append_tests, Taking, holding}
+use Rattle.appends.specs.Append.{append_tests, Taking}
 use Rattle.transport.specs.declared.Session.{Session}
-use Rattle.transport.specs.declared.MaybeRequest.{MaybeRequest}
-use Rattle.transport.specs.declared.MaybeRequest.TheVariants as maybe
+use Rattle.std.specs.Prelude.{Some, None}
+use Rattle.std.specs.declared.result.Result.{Result}
+use Rattle.std.specs.Prelude.{Ok, Err}
+use Rattle.transport.specs.declared.Sent.TheVariants as sent
+use Rattle.transport.specs.declared.Answer.{Answer}
 use Rattle.transport.specs.declared.Answer.TheVariants as answer
 use Rattle.bidi_write.specs.declared.Refusal.{Refusal}
-use Rattle.bidi_write.specs.declared.Check.{Check}
-use Rattle.bidi_write.specs.declared.Check.TheVariants as check
 use Rattle.cuts.specs.declared.Sending.{Sending}
 use Rattle.rules.proofs.Tests.{clash}
 use Rattle.bidi_write.proofs.Rows as Rows
@@ -43,16 +44,13 @@ use Rattle.transport.proofs.Refused as Refused
 use Rattle.transport.proofs.Numbers.{held_length, full_is, slot_is}
 use Rattle.cuts.proofs.Passing.{cuttable, past_is}
 
-no_refusal : (n : ℕ) (m : MaybeRequest) (x : Refusal) → answer.Took n m ≡ answer.Refused x → ⊥
-no_refusal n m x f = let z : ◌≡◌ {A = ℕ} 0 1 = cc in absurd (omega arith)
-
 -- ---- the rule, by its tests
 
 -- held bytes reach the limit
 abbrev fills_at : Bytes → R.Session → Bool
 fills_at d v = leb v.limit (length (U.holding d v))
 
-abbrev tests_at : Bytes → ℕ → R.Session → Check
+abbrev tests_at : Bytes → ℕ → R.Session → Result (Unit {0}) Refusal
 tests_at d out v =
     upload_check (R.phase_number v.phase) v.worker.finalized (fills_at d v) (fills_at d v) (R.short_out out v) (R.full v) (fills_at d v && R.no_slot v)
     (R.past_end (U.holding d v) v)
@@ -62,11 +60,11 @@ unfolding step
 step_is [] out v h = absurd (not-suc-le-zero h)
 step_is (x ∷ d) out v h = refl
 
-rule-refuses : (d : Bytes) (out : ℕ) (v : R.Session) (x : Refusal) → tests_at d out v ≡ check.Refuse x → U.appends d out v ≡ R.answers (R.refused (number_of x)) v
+rule-refuses : (d : Bytes) (out : ℕ) (v : R.Session) (x : Refusal) → tests_at d out v ≡ Err x → U.appends d out v ≡ R.answers (R.refused (number_of x)) v
 unfolding U.appends R.closed R.unless
 rule-refuses d out v x e = Rows.refused v _ x _ e
 
-rule_accepts : (d : Bytes) (out : ℕ) (v : R.Session) → tests_at d out v ≡ check.Go
+rule_accepts : (d : Bytes) (out : ℕ) (v : R.Session) → tests_at d out v ≡ Ok tt
     → U.appends d out v
     ≡ R.choose (fills_at d v) (R.answers (R.took (U.room d v) (some (U.cut_request (U.holding d v) v))) (U.cuts (U.holding d v) v))
     (R.answers (R.took (U.room d v) none) (U.holds (U.holding d v) v))
@@ -87,6 +85,20 @@ valid_store s store store' table e v = record {
   spec_fits = v.spec_fits;
   followed = v.followed;
   cursor = v.cursor;
+}
+
+-- so many bytes are held, and nothing is sent
+abbrev holding : ℕ → Session → Session
+holding n s = record {
+  limit = s.limit;
+  slots = s.slots;
+  phase = s.phase;
+  sent = sent.Nothing;
+  made = s.made;
+  write_offset = s.write_offset;
+  running_crc32c = s.running_crc32c;
+  held = n;
+  worker = s.worker;
 }
 
 valid_holds : (s : Session) (store : Bytes) (table : List ℕ) (n : ℕ) → s.held + n < s.limit → Valid s store table → Valid (holding (s.held + n) s) store table
@@ -157,8 +169,8 @@ module _ (s : Session) (store : Bytes) (table : List ℕ) (out : Bytes) (g : Gua
 
   -- refused
   pub append-refuses : R.is_ended (phase_of s.phase) ≡ false → (cuts : Bool) → cuts ≡ leb s.limit (s.held + n) → 0 < length d
-      → (x : Refusal) → append_tests s n (length out) cuts ≡ check.Refuse x
-      → Promise (R.append d (length out)) s store table out (record { session = s; answer = answer.Refused x }) store table out
+      → (x : Refusal) → append_tests s n (length out) cuts ≡ Err x
+      → Promise (R.append d (length out)) s store table out (record { session = s; answer = Err x }) store table out
   append-refuses on cuts e h x t =
       Refused.refusal (R.append d (length out)) s store table out x
       (first_goes (R.append d (length out)) s store table (some_offered d h) on g)
@@ -202,10 +214,10 @@ module _ (s : Session) (store : Bytes) (table : List ℕ) (out : Bytes) (g : Gua
 
     -- no chunk is cut
     pub append-holds : length store' ≡ length store → Taking s d (length out) n false
-        → Promise (R.append d (length out)) s store table out (record { session = holding (s.held + n) s; answer = answer.Took n maybe.Absent }) store' table out
+        → Promise (R.append d (length out)) s store table out (record { session = holding (s.held + n) s; answer = Ok (answer.Took n None) }) store' table out
     append-holds same t = record {
       first = first_goes (R.append d (length out)) s store table (some_offered d t.some_given) (Rows.first_false _ _ _ t.goes) g;
-      refuses = λ y f. absurd (no_refusal n maybe.Absent y f);
+      refuses = λ y f. absurd (Refused.accepted _ y f);
       takes = omega (arith, taken);
       store_beyond = x.beyond;
       table_beyond = refl;
@@ -219,10 +231,10 @@ module _ (s : Session) (store : Bytes) (table : List ℕ) (out : Bytes) (g : Gua
     -- a chunk is cut
     pub append-cuts : length store' ≡ length store → Taking s d (length out) n true → (r : Sending) (table' : List ℕ) (out' : Bytes)
         → Cuts s (s.held + n) store' table out r table' out'
-        → Promise (R.append d (length out)) s store table out (record { session = r.session; answer = answer.Took n (maybe.Present r.request) }) store' table' out'
+        → Promise (R.append d (length out)) s store table out (record { session = r.session; answer = Ok (answer.Took n (Some r.request)) }) store' table' out'
     append-cuts same t r table' out' k = record {
       first = first_goes (R.append d (length out)) s store table (some_offered d t.some_given) (Rows.first_false _ _ _ t.goes) g;
-      refuses = λ y f. absurd (no_refusal n (maybe.Present r.request) y f);
+      refuses = λ y f. absurd (Refused.accepted _ y f);
       takes = omega (arith, taken);
       store_beyond = x.beyond;
       table_beyond = k.table_beyond;
@@ -253,16 +265,13 @@ module _ (s : Session) (store table : ℕ) (g : GuardedAt s store table) (d : By
   pub take_within : Within store (lent_of s).size s.worker.replay_buffer.head (s.worker.replay_buffer.unpersisted_bytes + s.held) n
   take_within = record { room = g.store_lent; starts = omega (arith, g); ends = take_ends s store table g d out n cuts t }
 
-  pub take-given : n ≤ length d
-  take-given = omega (arith, t.taken)
-
 -- an append of nothing
 pub append-nothing : (d : Bytes) (s : Session) (store : Bytes) (table : List ℕ) (out : Bytes) → length d ≡ 0
-    → Promise (R.append d (length out)) s store table out (record { session = s; answer = answer.Took 0 maybe.Absent }) store table out
+    → Promise (R.append d (length out)) s store table out (record { session = s; answer = Ok (answer.Took 0 None) }) store table out
 unfolding step
 append-nothing [] s store table out e = record {
   first = record { empty = λ _. (refl, refl, refl, refl); over = λ f. clash refl f; unfit = λ f. clash refl f };
-  refuses = λ y f. absurd (no_refusal 0 maybe.Absent y f);
+  refuses = λ y f. absurd (Refused.accepted _ y f);
   takes = omega arith;
   store_beyond = refl;
   table_beyond = refl;

@@ -1,15 +1,15 @@
--- Append: what its private functions promise each other. What a caller is promised is `Promise` alone.
+-- Append: what its private function asks. What a caller is promised is `Promise` alone.
 use Rattle.std.specs.Prelude.{◌≡◌, Bool, ◌&&◌, ℕ, ◌+◌, ◌-◌, ◌<◌, min, length, leb}
 use Rattle.rules.specs.Message.{Bytes}
 use Rattle.rules.specs.Session as R
 use Rattle.admission.specs.Rows.{upload_tests}
 use Rattle.transport.specs.View.{phase_of}
-use Rattle.bidi_write.specs.declared.Check.{Check}
-use Rattle.bidi_write.specs.declared.Check.TheVariants as check
+use Rattle.std.specs.declared.result.Result.{Result}
+use Rattle.std.specs.Prelude.{Ok}
+use Rattle.bidi_write.specs.declared.Refusal.{Refusal}
 use Rattle.transport.specs.declared.Session.{Session}
-use Rattle.transport.specs.declared.Sent.TheVariants as sent
 
-abbrev pub append_tests : Session → (n out : ℕ) → Bool → Check
+abbrev pub append_tests : Session → (n out : ℕ) → Bool → Result (Unit {0}) Refusal
 append_tests s n out cuts =
     upload_tests (R.phase_number (phase_of s.phase)) s.worker.finalized s.limit s.worker.replay_buffer.capacity
     s.worker.replay_buffer.unpersisted_bytes s.write_offset.0 cuts cuts (s.held + n) out
@@ -20,18 +20,4 @@ pub record Taking (s : Session) (d : Bytes) (out n : ℕ) (cuts : Bool) : Type 0
   pub some_given : 0 < length d
   pub taken : n ≡ min (length d) (s.limit - s.held)
   pub cuts_is : cuts ≡ leb s.limit (s.held + n)
-  pub goes : append_tests s n out cuts ≡ check.Go
-
--- so many bytes are held, and nothing is sent
-abbrev pub holding : ℕ → Session → Session
-holding n s = record {
-  limit = s.limit;
-  slots = s.slots;
-  phase = s.phase;
-  sent = sent.Nothing;
-  made = s.made;
-  write_offset = s.write_offset;
-  running_crc32c = s.running_crc32c;
-  held = n;
-  worker = s.worker;
-}
+  pub goes : append_tests s n out cuts ≡ Ok tt

@@ -19,8 +19,8 @@ use Rattle.rules.specs.Notes.{data_in}
 use Rattle.ring.specs.Ring.{part}
 use Rattle.ring.proofs.Laws.{length_part}
 use Rattle.bidi_write.specs.View.{checksum_of, length_of, request_of}
-use Rattle.bidi_write.specs.declared.Checksum.{Checksum}
-use Rattle.bidi_write.specs.declared.Checksum.TheVariants as checksum
+use Rattle.std.specs.declared.option.Option as opt
+use Rattle.std.specs.Prelude.{Some, None}
 use Rattle.connector.specs.View.{connector_of}
 use Rattle.replay_buffer.specs.View.{queue_of}
 use Rattle.replay_buffer.specs.Push.{Pushes, pushed}
@@ -30,17 +30,16 @@ use Rattle.worker.specs.View.{waiters_of, worker_of}
 use Rattle.worker.proofs.Lengths.{carried_length}
 use Rattle.transport.specs.View.{phase_of, lent_of, end_of, view}
 use Rattle.transport.specs.Valid.{GuardedAt, Valid}
-use Rattle.cuts.specs.Cut.{chunk_at, CutRoom, CutBytes, joined_to, flushes_with, cut_session, CutSession, Cuts}
+use Rattle.cuts.specs.Cut.{chunk_at, CutRoom, joined_to, flushes_with, cut_session, CutSession, Cuts}
 use Rattle.transport.specs.declared.Session.{Session}
 use Rattle.cuts.specs.declared.Sending.{Sending}
-use Rattle.cuts.specs.declared.Pushed.{Pushed}
 use Rattle.transport.proofs.Views.{no_cursor, live_no_replay}
 use Rattle.transport.proofs.Numbers.{fits, offset_is, none_waits}
 
-sum-joined : (running : Checksum) (sum n : ℕ) (b : Bytes) → sum ≡ crc_of b → length b ≡ n
+sum-joined : (running : opt.Option ℕ) (sum n : ℕ) (b : Bytes) → sum ≡ crc_of b → length b ≡ n
     → checksum_of (joined_to running sum n) ≡ U.joined_sum (checksum_of running) b
-sum-joined checksum.Unknown sum n b e l = refl
-sum-joined (checksum.Known c) sum n b e l = rw (e, sym l)
+sum-joined None sum n b e l = refl
+sum-joined (Some c) sum n b e l = rw (e, sym l)
 
 -- the session after a cut, but for four of its parts
 abbrev after : Session → ℤ → Option ℕ → List R.ReplayChunk → Bool → R.Session
@@ -166,13 +165,13 @@ module _ (s : Session) (n : ℕ) (store : Bytes) (table : List ℕ) (out : Bytes
       stays = λ v. rw c.session_is (sound_cut v);
     }
 
--- the two parts of a cut, one after the other
+-- the bytes are summed and pushed as a chunk, then copied out
 pub cuts_as : (s : Session) (n : ℕ) (store : Bytes) (table : List ℕ) (out : Bytes) → CutRoom s n (length store) (length table) (length out)
-    → (p : Pushed) (table' : List ℕ) (out' : Bytes) → CutBytes s.worker.replay_buffer (lent_of s).size s.slots n store table out p table' out'
-    → length table' ≡ length table → (r : Sending) → CutSession s p.replay_buffer p.crc32c n r → Cuts s n store table out r table' out'
-cuts_as s n store table out h p table' out' k same r c =
-    let b : ReplayBuffer = pushed s.worker.replay_buffer n in
-    let e : p.replay_buffer ≡ b = k.pushes.result_is in
-    cuts-pushed s n store table out h p.crc32c k.sum_is table' same
-    (subst (λ (x : ReplayBuffer). Pushes s.slots s.worker.replay_buffer table n p.crc32c x table') e k.pushes)
-    r (subst (λ (x : ReplayBuffer). CutSession s x p.crc32c n r) e c) out' k.out_is
+    → (sum : ℕ) → sum ≡ crc_of (chunk_at s n store) → (b : ReplayBuffer) (table' : List ℕ) → Pushes s.slots s.worker.replay_buffer table n sum b table'
+    → length table' ≡ length table → (out' : Bytes) → out' ≡ chunk_at s n store ++ drop n out
+    → (r : Sending) → CutSession s b sum n r → Cuts s n store table out r table' out'
+cuts_as s n store table out h sum sum_is b table' p same out' out_is r c =
+    let e : b ≡ pushed s.worker.replay_buffer n = p.result_is in
+    cuts-pushed s n store table out h sum sum_is table' same
+    (subst (λ (x : ReplayBuffer). Pushes s.slots s.worker.replay_buffer table n sum x table') e p)
+    r (subst (λ (x : ReplayBuffer). CutSession s x sum n r) e c) out' out_is

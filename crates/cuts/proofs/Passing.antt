@@ -17,7 +17,7 @@ use Rattle.transport.specs.Valid.{Valid}
 use Rattle.admission.specs.Rows.{upload_check, upload_tests}
 use Rattle.cuts.specs.Cut.{Cuttable}
 use Rattle.transport.specs.declared.Session.{Session}
-use Rattle.bidi_write.specs.declared.Check.TheVariants as check
+use Rattle.std.specs.Prelude.{Ok}
 use Rattle.bidi_write.proofs.Rows.{first_false, later}
 use Rattle.transport.proofs.Numbers.{offset_is}
 
@@ -30,7 +30,7 @@ pub record Passes (phase : ℕ) (sends cuts short full room past : Bool) : Type 
   pub roomy : room ≡ false
   pub near : (cuts && past) ≡ false
 
-pub passes : (phase : ℕ) (finalized sends cuts short full room past : Bool) → upload_check phase finalized sends cuts short full room past ≡ check.Go
+pub passes : (phase : ℕ) (finalized sends cuts short full room past : Bool) → upload_check phase finalized sends cuts short full room past ≡ Ok tt
     → Passes phase sends cuts short full room past
 passes phase finalized sends cuts short full room past e =
     let live = later _ _ _ (later _ _ _ e) in
@@ -49,7 +49,7 @@ passes phase finalized sends cuts short full room past e =
 pub cuttable : (s : Session) (n out : ℕ)
     → upload_tests (R.phase_number (phase_of s.phase)) s.worker.finalized s.limit s.worker.replay_buffer.capacity
     s.worker.replay_buffer.unpersisted_bytes s.write_offset.0 true true n out
-    (leb s.slots s.worker.replay_buffer.chunks) ≡ check.Go
+    (leb s.slots s.worker.replay_buffer.chunks) ≡ Ok tt
     → n ≤ s.limit → Cuttable s n out
 cuttable s n out e h =
     let p = passes (R.phase_number (phase_of s.phase)) s.worker.finalized true true (ltb out s.limit)

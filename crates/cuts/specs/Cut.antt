@@ -1,16 +1,15 @@
 -- The cut of a chunk: what its functions promise append, flush and finalise, and each other.
 use Rattle.std.specs.Prelude.{◌≡◌, Bool, true, not, ◌&&◌, ◌||◌, List, ◌++◌, ℕ, ◌+◌, ◌*◌, ◌-◌, ◌<◌, ◌≤◌, ◌^◌, length, take, drop, leb, eqb, pos}
 use Rattle.std.proofs.Math.Option.{some}
-use Rattle.crc32c.specs.Reg.{crc_of, joined}
+use Rattle.crc32c.specs.Reg.{joined}
 use Rattle.rules.specs.Message.{Bytes}
 use Rattle.rules.specs.Session as R
 use Rattle.rules.specs.Upload as U
 use Rattle.rules.specs.Notes.{data_in}
 use Rattle.ring.specs.Ring.{part}
 use Rattle.bidi_write.specs.View.{length_of, request_of}
-use Rattle.bidi_write.specs.declared.Checksum.{Checksum}
-use Rattle.bidi_write.specs.declared.Checksum.TheVariants as checksum
-use Rattle.replay_buffer.specs.Push.{Pushes}
+use Rattle.std.specs.declared.option.Option as opt
+use Rattle.std.specs.Prelude.{Some, None}
 use Rattle.replay_buffer.specs.declared.ReplayBuffer.{ReplayBuffer}
 use Rattle.worker.specs.declared.Worker.{Worker}
 use Rattle.transport.specs.View.{phase_of, lent_of, end_of, view}
@@ -18,7 +17,6 @@ use Rattle.transport.specs.Valid.{GuardedAt, Valid}
 use Rattle.transport.specs.declared.Session.{Session}
 use Rattle.transport.specs.declared.Sent.TheVariants as sent
 use Rattle.cuts.specs.declared.Sending.{Sending}
-use Rattle.cuts.specs.declared.Pushed.{Pushed}
 
 -- the n bytes behind the stored ones
 abbrev pub chunk_at : Session → ℕ → Bytes → Bytes
@@ -37,25 +35,12 @@ pub record CutRoom (s : Session) (n store table out : ℕ) : Type 0 where
   pub guarded : GuardedAt s store table
   pub cuttable : Cuttable s n out
 
--- the n bytes are a chunk: summed, pushed and copied out
-pub record CutBytes (b : ReplayBuffer) (size slots n : ℕ) (store : Bytes) (table : List ℕ) (out : Bytes) (r : Pushed) (table' : List ℕ) (out' : Bytes) : Type 0 where
-  pub sum_is : r.crc32c ≡ crc_of (part size b.head b.unpersisted_bytes n store)
-  pub pushes : Pushes slots b table n r.crc32c r.replay_buffer table'
-  pub out_is : out' ≡ part size b.head b.unpersisted_bytes n store ++ drop n out
-
-abbrev pub joined_to : Checksum → ℕ → ℕ → Checksum
-joined_to checksum.Unknown sum n = checksum.Unknown
-joined_to (checksum.Known running) sum n = checksum.Known (joined running sum n)
+abbrev pub joined_to : opt.Option ℕ → ℕ → ℕ → opt.Option ℕ
+joined_to None sum n = None
+joined_to (Some running) sum n = Some (joined running sum n)
 
 abbrev pub storing : ReplayBuffer → Bool → Worker → Worker
-storing b flush w = record {
-  connector = w.connector;
-  replay_buffer = b;
-  pending_requests = w.pending_requests;
-  persisted_size = w.persisted_size;
-  finalized = w.finalized;
-  self_flush_outstanding = w.self_flush_outstanding || flush;
-}
+storing b flush w = record w { replay_buffer = b; self_flush_outstanding = w.self_flush_outstanding || flush }
 
 -- the watermark, with the buffer b
 abbrev pub flushes_with : ReplayBuffer → Session → Bool
@@ -63,12 +48,8 @@ flushes_with b s =
     eqb s.worker.pending_requests.count 0 && not s.worker.self_flush_outstanding && leb (b.capacity - 2 * s.limit) b.unpersisted_bytes
 
 abbrev pub cut_session : ReplayBuffer → ℕ → ℕ → Session → Session
-cut_session b sum n s = record {
-  limit = s.limit;
-  slots = s.slots;
-  phase = s.phase;
+cut_session b sum n s = record s {
   sent = sent.Request;
-  made = s.made;
   write_offset = record { 0 = pos (end_of s + n) };
   running_crc32c = joined_to s.running_crc32c sum n;
   held = 0;

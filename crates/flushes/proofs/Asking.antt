@@ -24,18 +24,17 @@ use Rattle.worker.specs.declared.PendingRequests.{PendingRequests}
 use Rattle.worker.proofs.Lengths.{no_length}
 use Rattle.worker.proofs.Waiters.{is_nil_is}
 use Rattle.bidi_write.specs.Refusal.{number_of}
-use Rattle.admission.specs.Rows.{upload_check}
-use Rattle.transport.specs.View.{phase_of, lent_of, end_of, held_of, view}
+use Rattle.admission.specs.Rows.{upload_check, upload_tests}
+use Rattle.transport.specs.View.{Left, phase_of, lent_of, end_of, held_of, view}
 use Rattle.transport.specs.Valid.{GuardedAt, Valid}
 use Rattle.transport.specs.Promise.{asked_by, First, Promise}
 use Rattle.cuts.specs.Cut.{CutRoom, Cuts}
-use Rattle.flushes.specs.Flush.{call_of, ask_tests, Asking, waiter_for, awaiting, Awaits}
+use Rattle.flushes.specs.Flush.{call_of, waiter_for, awaiting, Awaits}
 use Rattle.transport.specs.declared.Session.{Session}
 use Rattle.transport.specs.declared.Answer.TheVariants as answer
-use Rattle.transport.specs.declared.Outcome.{Outcome}
 use Rattle.bidi_write.specs.declared.Refusal.{Refusal}
-use Rattle.bidi_write.specs.declared.Check.{Check}
-use Rattle.bidi_write.specs.declared.Check.TheVariants as check
+use Rattle.std.specs.declared.result.Result.{Result}
+use Rattle.std.specs.Prelude.{Ok, Err}
 use Rattle.cuts.specs.declared.Sending.{Sending}
 use Rattle.rules.proofs.Tests.{or_no_left, or_no_right}
 use Rattle.bidi_write.proofs.Rows as Rows
@@ -46,12 +45,25 @@ use Rattle.transport.proofs.Numbers.{held_length, full_is, slot_is}
 use Rattle.transport.proofs.Ends.{guarded_waiting}
 use Rattle.cuts.proofs.Passing.{passes, cuttable, past_is}
 
+-- ---- the tests, by the record's numbers
+
+abbrev pub ask_tests : Session → (out : ℕ) → Bool → Result (Unit {0}) Refusal
+ask_tests s out cuts =
+    upload_tests (R.phase_number (phase_of s.phase)) s.worker.finalized s.limit s.worker.replay_buffer.capacity
+    s.worker.replay_buffer.unpersisted_bytes s.write_offset.0 true cuts s.held out
+    (cond cuts (leb s.slots s.worker.replay_buffer.chunks) (leb max_waiters s.worker.pending_requests.count || leb (2 ^ 64 - 1) s.made))
+
+-- a flush or finalise that cuts or not goes on
+pub record Asking (s : Session) (out : ℕ) (cuts : Bool) : Type 0 where
+  pub cuts_is : cuts ≡ not (eqb s.held 0)
+  pub goes : ask_tests s out cuts ≡ Ok tt
+
 -- ---- the rule, by its tests
 
 abbrev held_at : R.Session → Bool
 held_at v = not (R.is_nil v.writer.held)
 
-abbrev tests_at : ℕ → R.Session → Check
+abbrev tests_at : ℕ → R.Session → Result (Unit {0}) Refusal
 tests_at out v =
     upload_check (R.phase_number v.phase) v.worker.finalized true (held_at v) (R.short_out out v) (R.full v) (cond (held_at v) (R.no_slot v) (R.no_waiter v))
     (R.past_end v.writer.held v)
@@ -61,11 +73,11 @@ unfolding step
 step_is kind.Flush out v = refl
 step_is kind.Finalize out v = refl
 
-rule-refuses : (k : R.PendingKind) (out : ℕ) (v : R.Session) (x : Refusal) → tests_at out v ≡ check.Refuse x → U.asks k out v ≡ R.answers (R.refused (number_of x)) v
+rule-refuses : (k : R.PendingKind) (out : ℕ) (v : R.Session) (x : Refusal) → tests_at out v ≡ Err x → U.asks k out v ≡ R.answers (R.refused (number_of x)) v
 unfolding U.asks R.closed R.unless
 rule-refuses k out v x e = Rows.refused v _ x _ e
 
-rule_accepts : (k : R.PendingKind) (out : ℕ) (v : R.Session) → tests_at out v ≡ check.Go
+rule_accepts : (k : R.PendingKind) (out : ℕ) (v : R.Session) → tests_at out v ≡ Ok tt
     → U.asks k out v
     ≡ R.choose (held_at v) (R.answers (R.sends (U.cut_request v.writer.held v)) (U.cuts v.writer.held v))
     (R.answers (R.waits (U.request_for k v) (suc v.writer.made)) (U.awaits k v))
@@ -122,7 +134,7 @@ module _ (k : PendingKind) (s : Session) (store : Bytes) (table : List ℕ) (out
   abbrev rule : R.Session
   rule = view s store table
 
-  first : R.is_ended (phase_of s.phase) ≡ false → {r : Outcome} {table' : List ℕ} {out' : Bytes}
+  first : R.is_ended (phase_of s.phase) ≡ false → {r : Left} {table' : List ℕ} {out' : Bytes}
       → First (call_of k (length out)) s store table out r store table' out'
   first on = first_goes (call_of k (length out)) s store table (never_empty k (length out)) on g
 
@@ -141,8 +153,8 @@ module _ (k : PendingKind) (s : Session) (store : Bytes) (table : List ℕ) (out
       (ap (λ (n : ℕ). leb max_waiters n || leb (2 ^ 64 - 1) s.made) v.waiting_is)
       (sym (past_is s store table v (held_of s store)) ∙ ap (λ (n : ℕ). ltb (2 ^ 63 - 1) (end_of s + n)) length_held_is)
 
-  pub ask_refuses : R.is_ended (phase_of s.phase) ≡ false → (cuts : Bool) → cuts ≡ not (eqb s.held 0) → (x : Refusal) → ask_tests s (length out) cuts ≡ check.Refuse x
-      → Promise (call_of k (length out)) s store table out (record { session = s; answer = answer.Refused x }) store table out
+  pub ask_refuses : R.is_ended (phase_of s.phase) ≡ false → (cuts : Bool) → cuts ≡ not (eqb s.held 0) → (x : Refusal) → ask_tests s (length out) cuts ≡ Err x
+      → Promise (call_of k (length out)) s store table out (record { session = s; answer = Err x }) store table out
   ask_refuses on cuts e x t =
       Refused.refusal (call_of k (length out)) s store table out x (first on)
       (λ v. step_is k (length out) rule ∙ rule-refuses (kind_of k) (length out) rule x (tests_are cuts e v ∙ t))
@@ -157,7 +169,7 @@ module _ (k : PendingKind) (s : Session) (store : Bytes) (table : List ℕ) (out
       ∙ rw (held_is, sym t.cuts_is)
 
   pub ask_cuts : Asking s (length out) true → (r : Sending) (table' : List ℕ) (out' : Bytes) → Cuts s s.held store table out r table' out'
-      → Promise (call_of k (length out)) s store table out (record { session = r.session; answer = answer.Sends r.request }) store table' out'
+      → Promise (call_of k (length out)) s store table out (record { session = r.session; answer = Ok (answer.Sends r.request) }) store table' out'
   ask_cuts t r table' out' c = record {
     first = first (Rows.first_false _ _ _ t.goes);
     refuses = λ y f. let z : ◌≡◌ {A = ℕ} 0 1 = cc in absurd (omega arith);
@@ -198,7 +210,7 @@ module _ (k : PendingKind) (s : Session) (store : Bytes) (table : List ℕ) (out
   view-waits q e = ap₂ (after_wait k s store table) (add-one s.made) (e ∙ ap (λ (p : R.PendingRequest). waiters_of s.worker.pending_requests ++ (p ∷ [])) (waiter_is k s store table))
 
   pub ask_waits : Asking s (length out) false → (r : Sending) → Awaits k s r
-      → Promise (call_of k (length out)) s store table out (record { session = r.session; answer = answer.Waits r.request (s.made + 1) }) store table out
+      → Promise (call_of k (length out)) s store table out (record { session = r.session; answer = Ok (answer.Waits r.request r.session.made) }) store table out
   ask_waits t r w =
       let q : PendingRequests = r.session.worker.pending_requests in
       let a = waitable s (length out) t in
@@ -214,7 +226,8 @@ module _ (k : PendingKind) (s : Session) (store : Bytes) (table : List ℕ) (out
         sent_is = rw (none_sent, empty);
         sent_in = omega (arith, empty);
         steps = λ v.
-            ap (λ (x : Request). R.answers (R.waits x (s.made + 1)) (view r.session store table)) (w.request_is out ∙ ap (λ (p : R.PendingRequest). p.request) (waiter_is k s store table))
+            ap (λ (z : Session). R.answers (R.waits (request_of r.request out) z.made) (view r.session store table)) w.session_is
+            ∙ ap (λ (x : Request). R.answers (R.waits x (s.made + 1)) (view r.session store table)) (w.request_is out ∙ ap (λ (p : R.PendingRequest). p.request) (waiter_is k s store table))
             ∙ ap₂ (λ (n : ℕ) (z : R.Session). R.answers (R.waits (U.request_for (kind_of k) rule) n) z) (add-one s.made)
             (ap (λ (z : Session). view z store table) w.session_is ∙ view-waits q w.waiters_are)
             ∙ sym (rule-waits t v);

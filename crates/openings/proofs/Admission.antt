@@ -19,9 +19,11 @@ use Rattle.rules.proofs.Accepted.{first_passed}
 use Rattle.rules.proofs.Tests.{and_right, or_no_left, or_no_right}
 use Rattle.bidi_write.specs.View.{generation_of, given, status_of}
 use Rattle.bidi_write.specs.Refusal.{number_of, Rows, checked, numbered}
-use Rattle.bidi_write.specs.declared.Check.{Check}
-use Rattle.bidi_write.specs.declared.Check.TheVariants as check
+use Rattle.std.specs.declared.result.Result.{Result}
+use Rattle.std.specs.Prelude.{Ok, Err}
+use Rattle.bidi_write.specs.declared.Refusal.{Refusal}
 use Rattle.bidi_write.specs.declared.Refusal.TheVariants as refusal
+use Rattle.bidi_write.proofs.Rows.{no_go}
 use Rattle.state.specs.View.{condition_of, opened}
 use Rattle.admission.specs.Rows.{bad_limits, open_rows}
 use Rattle.admission.proofs.Limits.{within_limits}
@@ -46,9 +48,9 @@ either_row : (a b : Bool) (x y : O.Opened) → cond (a || b) x y ≡ cond a x (c
 either_row true b x y = refl
 either_row false b x y = refl
 
-abbrev opened_of : Check → O.Opened → O.Opened
-opened_of check.Go r = r
-opened_of (check.Refuse x) r = O.turned_away (number_of x)
+abbrev opened_of : Result (Unit {0}) Refusal → O.Opened → O.Opened
+opened_of (Ok tt) r = r
+opened_of (Err x) r = O.turned_away (number_of x)
 
 first_is : (rs : Rows) (r : O.Opened) → O.first (numbered rs) r ≡ opened_of (checked rs) r
 unfolding checked O.first
@@ -56,7 +58,7 @@ first_is [] r = refl
 first_is (row ∷ rs) r = at row.0 (first_is rs r)
   where
     at : (b : Bool) → O.first (numbered rs) r ≡ opened_of (checked rs) r
-        → cond b (O.turned_away (number_of row.1)) (O.first (numbered rs) r) ≡ opened_of (cond b (check.Refuse row.1) (checked rs)) r
+        → cond b (O.turned_away (number_of row.1)) (O.first (numbered rs) r) ≡ opened_of (cond b (Err row.1) (checked rs)) r
     at true ih = refl
     at false ih = ih
 
@@ -102,7 +104,7 @@ module _ (o : Opening) (b : Beside) (store table : ℕ) where
   rule_is : O.opens (opening_of o b store table) ≡ opened_of (checked all_rows) (O.opened session)
   rule_is = opens_is ∙ first_is all_rows (O.opened session)
 
-  admits : (k : Check) → k ≡ checked all_rows → Admits o b store table k
+  admits : (k : Result (Unit {0}) Refusal) → k ≡ checked all_rows → Admits o b store table k
   admits k e = record {
     refuses = λ x f. rw (sym e ∙ f) at rule_is;
     goes = λ f. rw (sym e ∙ f) at rule_is;
@@ -127,11 +129,21 @@ module _ (o : Opening) (b : Beside) (store table : ℕ) where
         };
   }
 
-pub limits_refuse : {o : Opening} {b : Beside} {store table : ℕ} → bad_limits o.limit (asked o) ≡ true → Admits o b store table (check.Refuse refusal.Limits)
+-- the row of the limits, which stands before the capacity is reckoned
+row_refuses : (b : Bool) (x : Refusal) (rs : Rows) → ◌≡◌ {A = Result (Unit {0}) Refusal} (cond b (Err refusal.Limits) (Ok tt)) (Err x) → Err x ≡ checked ((b, refusal.Limits) ∷ rs)
 unfolding checked
-limits_refuse {o} {b} {store} {table} h = admits o b store table (check.Refuse refusal.Limits) (rw h)
+row_refuses true x rs e = sym e
+row_refuses false x rs e = no_go x (sym e)
 
-pub rows_admit : {o : Opening} {b : Beside} {store table : ℕ} {k : Check} → bad_limits o.limit (asked o) ≡ false → k ≡ checked (rows o b store table)
+pub row_passes : (b : Bool) → ◌≡◌ {A = Result (Unit {0}) Refusal} (cond b (Err refusal.Limits) (Ok tt)) (Ok tt) → b ≡ false
+row_passes true e = no_go refusal.Limits e
+row_passes false e = refl
+
+pub limits_refuse : {o : Opening} {b : Beside} {store table : ℕ} {x : Refusal} → ◌≡◌ {A = Result (Unit {0}) Refusal} (cond (bad_limits o.limit (asked o)) (Err refusal.Limits) (Ok tt)) (Err x)
+    → Admits o b store table (Err x)
+limits_refuse {o} {b} {store} {table} {x} e = admits o b store table (Err x) (row_refuses (bad_limits o.limit (asked o)) x (rows o b store table) e)
+
+pub rows_admit : {o : Opening} {b : Beside} {store table : ℕ} {k : Result (Unit {0}) Refusal} → bad_limits o.limit (asked o) ≡ false → k ≡ checked (rows o b store table)
     → Admits o b store table k
 unfolding checked
 rows_admit {o} {b} {store} {table} {k} h e = admits o b store table k (rw h e)

@@ -11,27 +11,26 @@ use Rattle.rules.specs.Message.{Bytes}
 use Rattle.rules.specs.Session.{stored}
 use Rattle.rules.specs.Respond.{ack}
 use Rattle.rules.specs.Opening as O
-use Rattle.bidi_write.specs.declared.Checksum.TheVariants as checksum
+use Rattle.std.specs.declared.option.Option as opt
+use Rattle.std.specs.Prelude.{Some, None}
 use Rattle.bidi_write.specs.declared.WriteStatus.{WriteStatus}
 use Rattle.bidi_write.specs.declared.WriteStatus.TheVariants as status
-use Rattle.state.specs.declared.Condition.TheVariants as condition
 use Rattle.openings.specs.Opening.{Beside, beside, opening_of}
-use Rattle.openings.specs.declared.Capacity.TheVariants as capacity
 use Rattle.openings.specs.declared.Opening.{Opening}
 
 -- a chunk limit of 2 bytes: the capacity is 2 × 2 + 1, the ring 5 + 2 × 2 − 2 = 7 bytes
-with : ℕ → WriteStatus → Opening
+with : ℕ → opt.Option WriteStatus → Opening
 with limit s = record {
   limit = limit;
-  capacity = capacity.Asked 1;
+  capacity = Some 1;
   append = false;
   generation = record { 0 = pos 0 };
   has_write_handle = true;
   has_routing_token = false;
-  if_metageneration_match = condition.Absent;
-  if_metageneration_not_match = condition.Absent;
+  if_metageneration_match = None;
+  if_metageneration_not_match = None;
   response = record { write_status = s; has_write_handle = false };
-  checksum = checksum.Unknown;
+  checksum = None;
   has_payload = true;
   last_persisted_size = record { 0 = pos 0 };
 }
@@ -42,10 +41,10 @@ bytes bucket payload = beside bucket [] [] [] [] payload
 bucket : Bytes
 bucket = O.bucket_prefix ++ (98 ∷ [])
 
-finalised : WriteStatus
-finalised = status.Resource (record { size = record { 0 = pos 0 }; generation = record { 0 = pos 1 }; finalized = true })
+finalised : opt.Option WriteStatus
+finalised = Some (status.Resource (record { size = record { 0 = pos 0 }; generation = record { 0 = pos 1 }; finalized = true }))
 
-accepted : O.opens (opening_of (with 2 status.Absent) (bytes bucket (1 ∷ 2 ∷ [])) 7 1) ≡ O.opened (O.open_session (opening_of (with 2 status.Absent) (bytes bucket (1 ∷ 2 ∷ [])) 7 1))
+accepted : O.opens (opening_of (with 2 None) (bytes bucket (1 ∷ 2 ∷ [])) 7 1) ≡ O.opened (O.open_session (opening_of (with 2 None) (bytes bucket (1 ∷ 2 ∷ [])) 7 1))
 unfolding O.opens O.first O.too_long O.good_bucket opening_of with bytes bucket
 accepted = refl
 
@@ -89,7 +88,7 @@ offset = refl
 
 -- of a payload of two bytes, a negative P releases none, one inside it those below, one past it both
 released_to : ℤ → ℕ
-released_to p = O.open_released (opening_of (with 2 (status.PersistedSize (record { 0 = p }))) (bytes bucket (1 ∷ 2 ∷ [])) 7 1)
+released_to p = O.open_released (opening_of (with 2 (Some (status.PersistedSize (record { 0 = p })))) (bytes bucket (1 ∷ 2 ∷ [])) 7 1)
 
 released : (released_to (negsuc 0) ≡ 0) × (released_to (pos 1) ≡ 1) × (released_to (pos 3) ≡ 2)
 unfolding released_to stored O.open_session ack opening_of with bytes

@@ -1,17 +1,14 @@
 -- The payload of an opening: stored at offset 0 and acknowledged to P, with its place in the write offset and the running sum.
 -- Assumes nothing.
 use mathlib.Core.Path.{◌≡◌, refl, sym, ap, ap₂, ◌∙◌, subst}
-use mathlib.Core.Bool.{true, false, ◌&&◌}
 use mathlib.Core.Option.{Option, none, some}
 use mathlib.Core.List.{List, [], ◌∷◌, ◌++◌}
 use mathlib.Core.Logic.{⊎_elim}
 use Prim.Native.Nat.{ℕ, ◌+◌, ◌-◌, ◌<◌, ◌≤◌, max}
 use native.Mathlib.Nat.{zero-add}
 use native.Mathlib.Omega.{arith}
-use borrow.Author.Tests.{le-leb, lt-leb, leb-true, leb-false, ltb-true, ltb-false}
-use lib.Dec.{leb}
+use borrow.Author.Tests.{le-leb}
 use lib.IntN.{ℤ, pos, negsuc}
-use lib.Signed.{lt_z, le_z}
 use lib.ListN.{length}
 use lib.Seq.{take-length}
 use Rattle.rules.specs.Limits.{store_size}
@@ -20,39 +17,17 @@ use Rattle.rules.specs.Message.{Bytes}
 use Rattle.rules.specs.Session.{ReplayChunk, bytes_of}
 use Rattle.rules.specs.Respond.{ack}
 use Rattle.rules.specs.Opening as O
-use Rattle.rules.proofs.Lists.{cond_ind}
 use Rattle.ring.specs.Ring.{part, Within, Written}
 use Rattle.ring.proofs.Rot.{lt_or_ge}
 use Rattle.ring.proofs.Laws.{length-written, part-written}
 use Rattle.bidi_write.specs.Numbers.{to_ℕ}
 use Rattle.replay_buffer.specs.View.{Lent, lent, queue_of, Fits, Sound}
-use Rattle.replay_buffer.specs.Push.{Room, Pushes}
+use Rattle.replay_buffer.specs.Push.{Pushes}
 use Rattle.replay_buffer.specs.Ack.{Acks}
 use Rattle.replay_buffer.specs.declared.Acked.{Acked}
 use Rattle.replay_buffer.specs.declared.ReplayBuffer.{ReplayBuffer}
-use Rattle.replay_buffer.proofs.Laws.{empty_sound, empty_queue, length_queue, stored_bytes, push-room}
+use Rattle.replay_buffer.proofs.Laws.{empty_sound, empty_queue, length_queue, stored_bytes}
 use Rattle.openings.specs.Opening.{empty_of, Sized, Stores}
-
--- ---- the write offset
-
-pub larger_is : (p : ℤ) (n : ℕ) → O.larger p (pos n) ≡ pos (max (to_ℕ p) n)
-larger_is (pos q) n =
-    cond_ind (λ (z : ℤ). z ≡ pos (max q n)) (leb q n) (λ e. ap pos (omega (arith, leb-true q n e))) (λ e. ap pos (omega (arith, leb-false q n e)))
-larger_is (negsuc q) n = ap pos (omega arith)
-
-pub larger-end : (p : ℤ) (n : ℕ) → lt_z p (pos n) ≡ true → pos n ≡ O.larger p (pos n)
-larger-end (pos q) n h = ap pos (omega (arith, ltb-true q n h)) ∙ sym (larger_is (pos q) n)
-larger-end (negsuc q) n h = refl
-
-pub larger-size : (p : ℤ) (n : ℕ) → lt_z p (pos n) ≡ false → p ≡ O.larger p (pos n)
-larger-size (pos q) n h = ap pos (omega (arith, ltb-false q n h)) ∙ sym (larger_is (pos q) n)
-larger-size (negsuc q) n h = let z : ◌≡◌ {A = ℕ} 0 1 = cc in absurd (omega arith)
-
--- ---- the running sum
-
-pub not-zero : (p : ℤ) → (p ≡ pos 0 → ⊥) → (le_z p (pos 0) && le_z (pos 0) p) ≡ false
-not-zero (pos n) h = let some : n ≡ 0 → ⊥ = λ e. h (ap pos e) in rw (lt-leb n 0 (omega (arith, some)))
-not-zero (negsuc n) h = refl
 
 -- ---- the buffer
 
@@ -91,16 +66,10 @@ module _ {limit capacity : ℕ} (store : Bytes) (table : List ℕ) (sized : Size
     pub within : Within (length store) size 0 0 (length b)
     within = record { room = sized.store_lent; starts = omega arith; ends = omega arith }
 
-    pub payload-room : Room (length table) (empty_of capacity) (length b) (length table)
-    payload-room = push-room memory (empty_of capacity) 0 store table empty_fits (length b) sized.table_lent (omega arith)
-
     module _ {sum : ℕ} {store' : Bytes} {q : ReplayBuffer} {table₁ : List ℕ} (sum_is_lem : sum ≡ crc_of b) (written : Written size 0 0 b (length b) store store')
         (pushes : Pushes (length table) (empty_of capacity) table (length b) sum q table₁) where
       same_store : length store' ≡ length store
       same_store = length-written size 0 0 b (length b) store store' within (omega arith) written
-
-      pub pushed_fits : (n k : ℕ) → n ≡ length store → k ≡ length table → Fits memory q (length b) n k
-      pushed_fits n k en ek = rw (en, ek) (rw zero-add at (pushes.fits size 0 (length store) empty_fits (omega arith) (omega arith)))
 
       pushed_sound : Sound limit memory q table₁
       pushed_sound = pushes.sound limit size (empty_sound memory (empty_of capacity) table refl refl limit) short

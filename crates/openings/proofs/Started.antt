@@ -1,6 +1,7 @@
 -- The session of an accepted opening is the rules' one, and valid.
 -- Assumes nothing.
-use mathlib.Core.Path.{◌≡◌, sym, ap, ◌∙◌}
+use mathlib.Core.Path.{◌≡◌, refl, sym, ap, ◌∙◌}
+use mathlib.Core.Bool.{Bool, true, false}
 use mathlib.Core.Option.{Option, get_or}
 use mathlib.Core.List.{List}
 use Prim.Native.Nat.{ℕ, ◌+◌, ◌*◌, ◌<◌, ◌≤◌, ◌^◌, max}
@@ -18,7 +19,8 @@ use Rattle.rules.specs.Opening as O
 use Rattle.ring.specs.Ring.{part}
 use Rattle.bidi_write.specs.Numbers.{to_ℕ}
 use Rattle.bidi_write.specs.View.{checksum_of, given, status_of, response_of}
-use Rattle.bidi_write.specs.declared.Checksum.{Checksum}
+use Rattle.std.specs.Option.{is_some}
+use Rattle.std.specs.declared.option.Option as opt
 use Rattle.bidi_write.specs.declared.Offset.{Offset}
 use Rattle.connector.specs.View.{connector_of}
 use Rattle.connector.specs.declared.Connector.{Connector}
@@ -28,20 +30,26 @@ use Rattle.worker.specs.View.{worker_of}
 use Rattle.worker.proofs.Waiters.{none_waits, none-counted}
 use Rattle.transport.specs.View.{lent_of, view}
 use Rattle.transport.specs.Valid.{Valid}
-use Rattle.openings.specs.Opening.{Beside, asked_of, dialled, opening_of, Admitted, Connects, Stores, fresh_session, Starts}
+use Rattle.openings.specs.Opening.{Beside, asked_of, dialled, opening_of, Admitted, Connects, Stores, payload_sum, fresh_session, Starts}
 use Rattle.transport.specs.declared.Phase.TheVariants as phase
 use Rattle.transport.specs.declared.Session.{Session}
 use Rattle.openings.specs.declared.Opening.{Opening}
 use Rattle.openings.proofs.Admission.{not-over}
-use Rattle.openings.proofs.Payload.{larger_is, queue_at}
+use Rattle.rules.proofs.CalledStart.{larger_is}
+use Rattle.openings.proofs.Payload.{queue_at}
 
 abbrev payload_of : Opening → Beside → Option Bytes
 payload_of o b = given o.has_payload b.payload
 
+-- it is there where its sum is
+summed : (present : Bool) (b : Bytes) → given (is_some (payload_sum (given present b))) b ≡ given present b
+summed true b = refl
+summed false b = refl
+
 abbrev size_of : Opening → ℤ
 size_of o = get_or (M.size_of (status_of o.response.write_status)) (pos 0)
 
-module _ {o : Opening} {b : Beside} {store : Bytes} {table : List ℕ} {c : Connector} {acked : Acked} {store' : Bytes} {table' : List ℕ} (p at : Offset) (run : Checksum)
+module _ {o : Opening} {b : Beside} {store : Bytes} {table : List ℕ} {c : Connector} {acked : Acked} {store' : Bytes} {table' : List ℕ} (p at : Offset) (run : opt.Option ℕ)
     (admitted : Admitted o b (length store) (length table)) (slots-top : length table < 2 ^ 63)
     (capacity_is : acked.buffer.capacity ≡ max (get_or (asked_of o.capacity) default_capacity) (2 * o.limit + 1))
     (size_is : p.0 ≡ size_of o)
@@ -111,18 +119,20 @@ module _ {o : Opening} {b : Beside} {store : Bytes} {table : List ℕ} {c : Conn
   left_starts : Starts o b store table (record { session = left; released = acked.released }) store' table'
   left_starts = record { view_is = left-view; released_is = left-released; valid = left_valid; store_beyond = stores.store_beyond; table_beyond = stores.table_beyond }
 
-pub starts : {o : Opening} {b : Beside} {store : Bytes} {table : List ℕ} {asked capacity n : ℕ} {p at : Offset} {run : Checksum} {c : Connector} {acked : Acked} {s : Session}
+pub starts : {o : Opening} {b : Beside} {store : Bytes} {table : List ℕ} {asked capacity n : ℕ} {sum : opt.Option ℕ} {p at : Offset} {run : opt.Option ℕ} {c : Connector} {acked : Acked} {s : Session}
     {store' : Bytes} {table' : List ℕ}
     → Admitted o b (length store) (length table) → length table < 2 ^ 63
     → asked ≡ get_or (asked_of o.capacity) default_capacity → capacity ≡ max asked (2 * o.limit + 1)
     → p.0 ≡ size_of o
     → Connects o b.bucket b.object b.write_handle b.routing_token b.response_handle c
-    → Stores o.limit capacity (payload_of o b) p.0 store table acked store' table'
+    → sum ≡ payload_sum (payload_of o b)
+    → Stores o.limit capacity (given (is_some sum) b.payload) p.0 store table acked store' table'
     → n ≡ O.payload_length (payload_of o b) → (at.0 ≡ O.larger p.0 (pos n)) × (to_ℕ at.0 < 2 ^ 63)
     → checksum_of run ≡ O.open_sum (payload_of o b) p.0 (checksum_of o.checksum)
     → s ≡ fresh_session o.limit (length table) phase.Live at run c acked.buffer p
     → Starts o b store table (record { session = s; released = acked.released }) store' table'
-starts {p} {at} {run} {s} admitted slots-top ea ec ep connects stores en ew er fresh =
+starts {o} {b} {p} {at} {run} {s} admitted slots-top ea ec ep connects es stores-given en ew er fresh =
+    let stores = rw (es, summed o.has_payload b.payload) at stores-given in
     rw fresh
     (left_starts p at run admitted slots-top (stores.capacity_is ∙ rw ea at ec) ep connects (rw (← stores.capacity_is) at stores)
     (rw en at ew.0) ew.1 er)

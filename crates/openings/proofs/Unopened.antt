@@ -10,12 +10,13 @@ use Rattle.rules.specs.Message.{Bytes}
 use Rattle.rules.specs.Session as R
 use Rattle.replay_buffer.proofs.Laws.{empty_sound}
 use Rattle.worker.proofs.Waiters.{none_waits, none-counted}
-use Rattle.transport.specs.View.{phase_of, lent_of, answer_of}
+use Rattle.transport.specs.View.{Left, phase_of, lent_of, answer_of}
 use Rattle.transport.specs.Valid.{Valid}
 use Rattle.transport.specs.Promise.{asked_by, Promise}
 use Rattle.openings.specs.Opening.{empty_of, no_spec, unopened}
 use Rattle.transport.specs.declared.Answer.{Answer}
-use Rattle.transport.specs.declared.Outcome.{Outcome}
+use Rattle.bidi_write.specs.declared.Refusal.{Refusal}
+use Rattle.std.specs.declared.result.Result.{Result}
 use Rattle.rules.proofs.Tests.{clash}
 
 pub unopened-ended : R.is_ended (phase_of unopened.phase) ≡ true
@@ -51,6 +52,6 @@ unopened_valid store table hs ht = record {
 }
 
 -- a later call, unless it is an append of nothing, is refused with 7, whatever is lent
-pub later-refused : (c : R.Call) (store : Bytes) (table : List ℕ) (out : Bytes) (r : Outcome) (store' : Bytes) (table' : List ℕ) (out' : Bytes)
+pub later-refused : (c : R.Call) (store : Bytes) (table : List ℕ) (out : Bytes) (r : Left) (store' : Bytes) (table' : List ℕ) (out' : Bytes)
     → (asked_by c).empty ≡ false → Promise c unopened store table out r store' table' out' → answer_of r.answer out' ≡ R.refused 7
-later-refused c store table out r store' table' out' h p = ap (λ (a : Answer). answer_of a out') (p.first.over h unopened-ended)
+later-refused c store table out r store' table' out' h p = ap (λ (a : Result Answer Refusal). answer_of a out') (p.first.over h unopened-ended)

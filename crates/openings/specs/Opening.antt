@@ -11,12 +11,13 @@ use Rattle.rules.specs.Session as R
 use Rattle.rules.specs.Opening as O
 use Rattle.bidi_write.specs.View.{generation_of, checksum_of, given, response_of}
 use Rattle.bidi_write.specs.declared.Cause.TheVariants as cause
-use Rattle.bidi_write.specs.declared.Checksum.{Checksum}
-use Rattle.bidi_write.specs.declared.Checksum.TheVariants as checksum
+use Rattle.std.specs.declared.option.Option as opt
+use Rattle.std.specs.Prelude.{Some, None}
+use Rattle.std.specs.declared.result.Result.{Result}
+use Rattle.std.specs.Prelude.{Ok, Err}
 use Rattle.bidi_write.specs.declared.Offset.{Offset}
 use Rattle.state.specs.View.{condition_of, opened, spec_of, SpecFits}
 use Rattle.state.specs.declared.AppendObjectSpec.{AppendObjectSpec}
-use Rattle.state.specs.declared.Condition.TheVariants as condition
 use Rattle.connector.specs.declared.Connector.{Connector}
 use Rattle.replay_buffer.specs.View.{lent, queue_of, Fits, Sound}
 use Rattle.replay_buffer.specs.declared.Acked.{Acked}
@@ -25,18 +26,12 @@ use Rattle.worker.specs.View.{no_waiters}
 use Rattle.bidi_write.specs.Refusal.{number_of}
 use Rattle.transport.specs.View.{lent_of, view}
 use Rattle.transport.specs.Valid.{Valid}
-use Rattle.bidi_write.specs.declared.Check.{Check}
-use Rattle.bidi_write.specs.declared.Check.TheVariants as check
 use Rattle.transport.specs.declared.Phase.{Phase}
 use Rattle.transport.specs.declared.Phase.TheVariants as phase
 use Rattle.transport.specs.declared.Sent.TheVariants as sent
 use Rattle.bidi_write.specs.declared.Refusal.{Refusal}
 use Rattle.transport.specs.declared.Session.{Session}
-use Rattle.openings.specs.declared.Capacity.{Capacity}
-use Rattle.openings.specs.declared.Capacity.TheVariants as capacity
 use Rattle.openings.specs.declared.Opening.{Opening}
-use Rattle.openings.specs.declared.OpenAnswer.{OpenAnswer}
-use Rattle.openings.specs.declared.OpenAnswer.TheVariants as answer
 use Rattle.openings.specs.declared.Opened.{Opened}
 use Rattle.openings.specs.declared.starting.Started.{Started}
 
@@ -59,9 +54,9 @@ beside bucket object handle token response payload = record {
   payload = payload;
 }
 
-abbrev pub asked_of : Capacity → Option ℕ
-asked_of capacity.Default = none
-asked_of (capacity.Asked n) = some n
+abbrev pub asked_of : opt.Option ℕ → Option ℕ
+asked_of None = none
+asked_of (Some n) = some n
 
 -- the spec that the opening dialled with
 abbrev pub dialled : Opening → Beside → S.AppendObjectSpecState
@@ -89,7 +84,7 @@ abbrev pub empty_of : ℕ → ReplayBuffer
 empty_of capacity = record { capacity = capacity; head = 0; unpersisted_bytes = 0; first = 0; chunks = 0 }
 
 -- no waiter, and nothing held
-abbrev pub fresh_session : ℕ → ℕ → Phase → Offset → Checksum → Connector → ReplayBuffer → Offset → Session
+abbrev pub fresh_session : ℕ → ℕ → Phase → Offset → opt.Option ℕ → Connector → ReplayBuffer → Offset → Session
 fresh_session limit slots p at sum c b size = record {
   limit = limit;
   slots = slots;
@@ -111,10 +106,10 @@ no_spec = record {
   bucket = record { bytes = zeros 256; length = 0 };
   object = record { bytes = zeros 1024; length = 0 };
   generation = record { 0 = pos 0 };
-  write_handle = record { given = false; bytes = zeros 1024; length = 0 };
-  routing_token = record { given = false; bytes = zeros 512; length = 0 };
-  if_metageneration_match = condition.Absent;
-  if_metageneration_not_match = condition.Absent;
+  write_handle = None;
+  routing_token = None;
+  if_metageneration_match = None;
+  if_metageneration_not_match = None;
 }
 
 abbrev pub at_zero : Offset
@@ -123,23 +118,23 @@ at_zero = record { 0 = pos 0 }
 -- one that ended, with the smallest ring and one slot
 unfoldable pub unopened : Session
 unopened =
-    fresh_session 1 1 (phase.Ended cause.GivenUp) at_zero checksum.Unknown
+    fresh_session 1 1 (phase.Ended cause.GivenUp) at_zero None
     (record { spec = no_spec; attempt_count = 0; redirects_followed = 0; last_persisted_size = at_zero }) (empty_of 3) at_zero
 
 -- ---- the promise
 
 -- what the opening answered and left, as the rules have it
-abbrev pub opened_of : OpenAnswer → R.Session → O.Opened
-opened_of (answer.Refused x) s = O.turned_away (number_of x)
-opened_of answer.Opened s = O.opened s
+abbrev pub opened_of : Result (Unit {0}) Refusal → R.Session → O.Opened
+opened_of (Err x) s = O.turned_away (number_of x)
+opened_of (Ok tt) s = O.opened s
 
 -- the bytes that it released
-abbrev pub released_at : OpenAnswer → O.Opening → ℕ
-released_at (answer.Refused x) o = 0
-released_at answer.Opened o = O.open_released o
+abbrev pub released_at : Result (Unit {0}) Refusal → O.Opening → ℕ
+released_at (Err x) o = 0
+released_at (Ok tt) o = O.open_released o
 
 -- a session with the writer's generation and persisted size (`generation`, `persisted_size` of transport.rs): its own
-abbrev pub opened_as : Session → OpenAnswer → ℕ → Opened
+abbrev pub opened_as : Session → Result (Unit {0}) Refusal → ℕ → Opened
 opened_as s a n = record { session = s; answer = a; released = n; generation = s.worker.connector.spec.generation; persisted_size = s.worker.persisted_size }
 
 -- the rules' opening o, from the store and table lent to what it answered and left of them
@@ -148,11 +143,11 @@ pub record OpensAs (o : O.Opening) (store : Bytes) (table : List ℕ) (r : Opene
   pub released_is : r.released ≡ released_at r.answer o
   pub opens_is : opened_of r.answer (view r.session store' table') ≡ O.opens o
   -- a refused opening touches nothing, and leaves a session that ended
-  pub refuses : (x : Refusal) → r.answer ≡ answer.Refused x → (r.session ≡ unopened) × (store' ≡ store) × (table' ≡ table)
+  pub refuses : (x : Refusal) → r.answer ≡ Err x → (r.session ≡ unopened) × (store' ≡ store) × (table' ≡ table)
   -- what is lent beyond ring and slots is untouched
   pub store_beyond : drop (lent_of r.session).size store' ≡ drop (lent_of r.session).size store
   pub table_beyond : drop r.session.slots table' ≡ drop r.session.slots table
-  pub valid : r.answer ≡ answer.Opened → Valid r.session store' table'
+  pub valid : r.answer ≡ Ok tt → Valid r.session store' table'
 
 -- for any input whatever
 abbrev pub Opens : Opening → Beside → Bytes → List ℕ → Opened → Bytes → List ℕ → Type 0
@@ -175,10 +170,10 @@ pub record Admitted (o : Opening) (b : Beside) (store table : ℕ) : Type 0 wher
   pub payload_in : M.over o.limit (given o.has_payload b.payload) ≡ false
 
 -- the refusals
-pub record Admits (o : Opening) (b : Beside) (store table : ℕ) (r : Check) : Type 0 where
-  pub refuses : (x : Refusal) → r ≡ check.Refuse x → O.opens (opening_of o b store table) ≡ O.turned_away (number_of x)
-  pub goes : r ≡ check.Go → O.opens (opening_of o b store table) ≡ O.opened (O.open_session (opening_of o b store table))
-  pub admitted : r ≡ check.Go → Admitted o b store table
+pub record Admits (o : Opening) (b : Beside) (store table : ℕ) (r : Result (Unit {0}) Refusal) : Type 0 where
+  pub refuses : (x : Refusal) → r ≡ Err x → O.opens (opening_of o b store table) ≡ O.turned_away (number_of x)
+  pub goes : r ≡ Ok tt → O.opens (opening_of o b store table) ≡ O.opened (O.open_session (opening_of o b store table))
+  pub admitted : r ≡ Ok tt → Admitted o b store table
 
 -- the connector
 pub record Connects (o : Opening) (bucket object handle token response : Bytes) (r : Connector) : Type 0 where
@@ -189,9 +184,9 @@ pub record Connects (o : Opening) (bucket object handle token response : Bytes) 
   pub redirects_is : r.redirects_followed ≡ 0
   pub size_is : r.last_persisted_size ≡ o.last_persisted_size
 
-abbrev pub payload_sum : Option Bytes → ℕ
-payload_sum none = 0
-payload_sum (some b) = crc_of b
+abbrev pub payload_sum : Option Bytes → opt.Option ℕ
+payload_sum none = None
+payload_sum (some b) = Some (crc_of b)
 
 -- what a payload is stored into
 pub record Sized (limit capacity store table : ℕ) : Type 0 where

@@ -1,7 +1,8 @@
 // Ported from google-cloud-storage 1.21.0, src/storage/bidi_write/transport.rs, Copyright 2026 Google LLC (Apache-2.0); changed: no tasks, channels or heap.
 // The session of an accepted opening (`connect_attempt`, `start_worker`), and that of a refused one.
 ghost use Rattle.std.specs.Prelude.{◌≡◌, false, ◌&&◌, ◌+◌, ◌*◌, ◌<◌, ◌≤◌, ◌^◌, max, pos, length};
-ghost use Rattle.std.proofs.Math.Option.{get_or};
+ghost use Rattle.std.specs.Option.{is_some};
+ghost use Rattle.std.proofs.Math.Option.{Option, get_or};
 ghost use Rattle.rules.specs.Limits.{max_chunk};
 ghost use Rattle.rules.specs.Message as M;
 ghost use Rattle.rules.specs.Opening as O;
@@ -10,13 +11,10 @@ ghost use Rattle.bidi_write.specs.View.{given, checksum_of, status_of};
 ghost use Rattle.openings.specs.Opening.{beside, Admitted, Connects, empty_of, fresh_session, no_spec, unopened, payload_sum, Sized, Stores, Starts};
 
 use crate::{Opening, asked_capacity};
-use bidi_write::{Cause, Checksum, Generation, Offset, Size, WriteStatus};
+use bidi_write::{Cause, Generation, Offset, WriteStatus};
 use connector::Connector;
 use replay_buffer::{Acked, ReplayBuffer, ring_size};
-use state::{
-    AppendObjectSpec, AppendObjectSpecState, Bucket, Condition, MAX_BUCKET, MAX_OBJECT,
-    MAX_ROUTING_TOKEN, MAX_WRITE_HANDLE, Object, RoutingToken, WriteHandle,
-};
+use state::{AppendObjectSpec, AppendObjectSpecState, MAX_BUCKET, MAX_OBJECT, Text};
 use transport::{Phase, Sent, Session};
 use worker::{PendingRequests, Worker};
 
@@ -32,8 +30,7 @@ pub fn capacity_for(asked: usize, limit: usize) -> usize
     requires { limit ≤ max_chunk }
     ensures { result ≡ max asked (2 * limit + 1) }
 {
-    let least = 2 * limit + 1;
-    if asked < least { least } else { asked }
+    asked.max(2 * limit + 1)
 }
 
 // The session that the calls start from. A payload goes to the front of the store, and its word to the table.
@@ -51,16 +48,10 @@ pub fn start(
     requires { Admitted o (beside bucket.now object.now write_handle.now routing_token.now response_handle.now payload.now) (length store.old) (length table.old) }
     ensures { Starts o (beside bucket.now object.now write_handle.now routing_token.now response_handle.now payload.now) store.old table.old result store.new table.new }
 {
-    let limit = o.limit;
-    let wanted = o.capacity;
-    let response = o.response;
-    let status = response.write_status;
-    let has_payload = o.has_payload;
-    let stated = o.checksum;
     let slots = table.len();
-    let capacity = capacity_for(asked_capacity(wanted), limit);
-    let persisted = opening_size(status);
-    let sum = payload_sum(has_payload, payload);
+    let capacity = capacity_for(asked_capacity(o.capacity), o.limit);
+    let persisted = opening_size(o.response.write_status);
+    let sum = payload_sum(o.has_payload, payload);
     let connector = connect(
         o,
         bucket,
@@ -69,27 +60,15 @@ pub fn start(
         routing_token,
         response_handle,
     );
-    let acked = store_payload(
-        limit,
-        capacity,
-        store,
-        table,
-        has_payload,
-        payload,
-        sum,
-        persisted,
-    );
-    let at = write_offset(persisted, payload_length(has_payload, payload));
-    let running = running_sum(has_payload, sum, persisted, stated);
-    let buffer = acked.buffer;
+    let acked = store_payload(o.limit, capacity, store, table, payload, sum, persisted);
     let session = fresh(
-        limit,
+        o.limit,
         slots,
         Phase::Live,
-        at,
-        running,
+        write_offset(persisted, payload_length(o.has_payload, payload)),
+        running_sum(sum, persisted, o.checksum),
         connector,
-        buffer,
+        acked.buffer,
         persisted,
     );
     Started {
@@ -99,34 +78,27 @@ pub fn start(
 }
 
 // "persisted size P is the response's, 0 where absent"
-fn opening_size(s: WriteStatus) -> Offset
+fn opening_size(s: Option<WriteStatus>) -> Offset
     ensures { result.0 ≡ get_or (M.size_of (status_of s)) (pos 0) }
 {
-    let size = bidi_write::persisted_size(s);
-    match size {
-        Size::Absent => Offset(0),
-        Size::Stated(n) => n,
-    }
+    bidi_write::persisted_size(s).unwrap_or(Offset(0))
 }
 
 // "the payload's length (none: 0)"
 fn payload_length(present: bool, payload: &[u8]) -> usize
     ensures { result ≡ O.payload_length (given present payload.now) }
 {
-    if present {
-        return payload.len();
-    }
-    0
+    if present { payload.len() } else { 0 }
 }
 
-// The payload's sum (none: 0, which nobody reads).
-fn payload_sum(present: bool, payload: &[u8]) -> u32
+fn payload_sum(present: bool, payload: &[u8]) -> Option<u32>
     ensures { result ≡ payload_sum (given present payload.now) }
 {
     if present {
-        return crc32c::crc32c(payload);
+        Some(crc32c::crc32c(payload))
+    } else {
+        None
     }
-    0
 }
 
 // The response updates the spec that the opening dialled with.
@@ -144,62 +116,56 @@ fn connect(
     requires response_handle_value { M.over M.max_handle (given o.response.has_write_handle response_handle.now) ≡ false }
     ensures { Connects o bucket.now object.now write_handle.now routing_token.now response_handle.now result }
 {
-    let generation = o.generation;
-    let if_match = o.if_metageneration_match;
-    let if_not_match = o.if_metageneration_not_match;
-    let response = o.response;
-    let last_persisted_size = o.last_persisted_size;
     let dialled = AppendObjectSpecState::new(
         o.append,
         bucket,
         object,
-        generation,
+        o.generation,
         o.has_write_handle,
         write_handle,
         o.has_routing_token,
         routing_token,
-        if_match,
-        if_not_match,
+        o.if_metageneration_match,
+        o.if_metageneration_not_match,
     );
-    let spec = dialled.handle_response(response, response_handle);
     Connector {
-        spec,
+        spec: dialled.handle_response(o.response, response_handle),
         attempt_count: 0,
         redirects_followed: 0,
-        last_persisted_size,
+        last_persisted_size: o.last_persisted_size,
     }
 }
 
-// "a payload is stored at offset 0 and acknowledged to P"
+// "a payload is stored at offset 0 and acknowledged to P": one whose sum is given.
 fn store_payload(
     limit: usize,
     capacity: usize,
     store: &mut [u8],
     table: &mut [u64],
-    present: bool,
     payload: &[u8],
-    sum: u32,
+    sum: Option<u32>,
     persisted: Offset,
 ) -> Acked
     requires sized { Sized limit capacity (length store.old) (length table.old) }
-    requires payload_value { M.over limit (given present payload.now) ≡ false }
-    requires sum_value { sum ≡ payload_sum (given present payload.now) }
-    ensures { Stores limit capacity (given present payload.now) persisted.0 store.old table.old result store.new table.new }
+    requires payload_value { M.over limit (given (is_some sum) payload.now) ≡ false }
+    requires sum_value { sum ≡ payload_sum (given (is_some sum) payload.now) }
+    ensures { Stores limit capacity (given (is_some sum) payload.now) persisted.0 store.old table.old result store.new table.new }
 {
-    let slots = table.len();
-    let size = ring_size(capacity, limit);
     let buffer = empty(capacity);
-    if !present {
-        return Acked {
+    match sum {
+        None => Acked {
             buffer,
             released: 0,
-        };
+        },
+        Some(crc32c) => {
+            let slots = table.len();
+            let size = ring_size(capacity, limit);
+            ring::copy_in(store, size, 0, 0, payload, payload.len());
+            let pushed = replay_buffer::push(buffer, table, slots, payload.len(), crc32c);
+            let end = bidi_write::from_nat(payload.len() as u64);
+            replay_buffer::ack(pushed, store, size, table, slots, end, persisted)
+        }
     }
-    let n = payload.len();
-    ring::copy_in(store, size, 0, 0, payload, n);
-    let pushed = replay_buffer::push(buffer, table, slots, n, sum);
-    let end = bidi_write::from_nat(n as u64);
-    replay_buffer::ack(pushed, store, size, table, slots, end, persisted)
 }
 
 // No chunk, at the front of store and table.
@@ -222,23 +188,21 @@ fn write_offset(persisted: Offset, n: usize) -> Offset
 {
     let end = bidi_write::from_nat(n as u64);
     if bidi_write::below(persisted, end) {
-        return end;
+        end
+    } else {
+        persisted
     }
-    persisted
 }
 
 // "The running sum is the payload's, else 0 where P = 0, else the response's, else unknown."
-fn running_sum(present: bool, sum: u32, persisted: Offset, stated: Checksum) -> Checksum
-    ensures { (b : M.Bytes) → sum ≡ payload_sum (given present b) → checksum_of result ≡ O.open_sum (given present b) persisted.0 (checksum_of stated) }
+fn running_sum(sum: Option<u32>, persisted: Offset, stated: Option<u32>) -> Option<u32>
+    ensures { (payload : Option M.Bytes) → sum ≡ payload_sum payload → checksum_of result ≡ O.open_sum payload persisted.0 (checksum_of stated) }
 {
-    if present {
-        return Checksum::Known(sum);
+    match sum {
+        Some(_) => sum,
+        None if persisted.0 == 0 => Some(0),
+        None => stated,
     }
-    let p = persisted.0;
-    if p == 0 {
-        return Checksum::Known(0);
-    }
-    stated
 }
 
 // A session with no waiter and nothing held.
@@ -247,22 +211,13 @@ fn fresh(
     slots: usize,
     phase: Phase,
     write_offset: Offset,
-    running_crc32c: Checksum,
+    running_crc32c: Option<u32>,
     connector: Connector,
     replay_buffer: ReplayBuffer,
     persisted_size: Offset,
 ) -> Session
     ensures { result ≡ fresh_session limit slots phase write_offset running_crc32c connector replay_buffer persisted_size }
 {
-    let pending_requests = PendingRequests::new();
-    let worker = Worker {
-        connector,
-        replay_buffer,
-        pending_requests,
-        persisted_size,
-        finalized: false,
-        self_flush_outstanding: false,
-    };
     Session {
         limit,
         slots,
@@ -272,63 +227,58 @@ fn fresh(
         write_offset,
         running_crc32c,
         held: 0,
-        worker,
+        worker: Worker {
+            connector,
+            replay_buffer,
+            pending_requests: PendingRequests::new(),
+            persisted_size,
+            finalized: false,
+            self_flush_outstanding: false,
+        },
     }
 }
 
 // No name, generation, handle, token or condition.
+#[tactic(auto, unfolding(crate::specs::Opening::no_spec))]
 fn no_spec() -> AppendObjectSpec
     ensures { result ≡ no_spec }
 {
-    let bucket = Bucket {
-        bytes: [0u8; MAX_BUCKET],
-        length: 0,
-    };
-    let object = Object {
-        bytes: [0u8; MAX_OBJECT],
-        length: 0,
-    };
-    let write_handle = WriteHandle {
-        given: false,
-        bytes: [0u8; MAX_WRITE_HANDLE],
-        length: 0,
-    };
-    let routing_token = RoutingToken {
-        given: false,
-        bytes: [0u8; MAX_ROUTING_TOKEN],
-        length: 0,
-    };
     AppendObjectSpec {
-        bucket,
-        object,
+        bucket: Text {
+            bytes: [0u8; MAX_BUCKET],
+            length: 0,
+        },
+        object: Text {
+            bytes: [0u8; MAX_OBJECT],
+            length: 0,
+        },
         generation: Generation(0),
-        write_handle,
-        routing_token,
-        if_metageneration_match: Condition::Absent,
-        if_metageneration_not_match: Condition::Absent,
+        write_handle: None,
+        routing_token: None,
+        if_metageneration_match: None,
+        if_metageneration_not_match: None,
     }
 }
 
 // What a refused opening leaves: a session that ended, with the smallest ring and one slot.
+#[tactic(auto, unfolding(crate::specs::Opening::unopened))]
 pub fn unopened() -> Session
     ensures { result ≡ unopened }
 {
-    let spec = no_spec();
     let connector = Connector {
-        spec,
+        spec: no_spec(),
         attempt_count: 0,
         redirects_followed: 0,
         last_persisted_size: Offset(0),
     };
-    let buffer = empty(3);
     fresh(
         1,
         1,
         Phase::Ended(Cause::GivenUp),
         Offset(0),
-        Checksum::Unknown,
+        None,
         connector,
-        buffer,
+        empty(3),
         Offset(0),
     )
 }

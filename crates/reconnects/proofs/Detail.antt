@@ -8,8 +8,7 @@ use Rattle.rules.specs.Message.{Bytes}
 use Rattle.rules.specs.Message as M
 use Rattle.rules.specs.Session as R
 use Rattle.rules.specs.Reconnect.{overlong, rerouted}
-use Rattle.redirect.specs.Detail.{redirect_at, malformed_in, Within, ReadsDetail}
-use Rattle.redirect.specs.declared.Reading.{Reading}
+use Rattle.redirect.specs.Detail.{Reading, redirect_at, malformed_in, Within, ReadsDetail}
 
 module _ {d : Reading} {b : M.Break} {value : Bytes} (reads : ReadsDetail d b value) where
   pub malformed_as : {t : Bool} → t ≡ malformed_in d → t ≡ M.is_malformed b

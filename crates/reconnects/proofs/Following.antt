@@ -13,7 +13,9 @@ use Rattle.rules.specs.Step.{step}
 use Rattle.bidi_write.specs.View.{cause_of}
 use Rattle.bidi_write.specs.declared.Cause.{Cause}
 use Rattle.bidi_write.specs.declared.Refusal.{Refusal}
-use Rattle.transport.specs.View.{view}
+use Rattle.std.specs.declared.result.Result.{Result}
+use Rattle.std.specs.Prelude.{Ok, Err}
+use Rattle.transport.specs.View.{left, view}
 use Rattle.transport.specs.Valid.{Valid}
 use Rattle.transport.specs.Promise.{First, Promise}
 use Rattle.transport.specs.Parts.{EndsAs}
@@ -24,8 +26,8 @@ use Rattle.transport.specs.declared.Session.{Session}
 use Rattle.reconnects.specs.Follows.{Follows}
 
 -- where the rule followed is the call's
-pub promise : (c : R.Call) (rule : R.Session → R.Result) (s : Session) (store : Bytes) (table : List ℕ) (out : Bytes) (r : Outcome) → First c s store table out r store table out → Follows rule s r
-    → (Valid s store table → rule (view s store table) ≡ step c (view s store table)) → Promise c s store table out r store table out
+pub promise : (c : R.Call) (rule : R.Session → R.Result) (s : Session) (store : Bytes) (table : List ℕ) (out : Bytes) (r : Outcome) → First c s store table out (left s (Ok r)) store table out → Follows rule s r
+    → (Valid s store table → rule (view s store table) ≡ step c (view s store table)) → Promise c s store table out (left s (Ok r)) store table out
 promise c rule s store table out r g f e = record {
   first = g;
   refuses = λ x h. absurd (f.quiet.accepts x h);
@@ -51,7 +53,7 @@ ended c k released s r e = record {
   stays = e.stays;
 }
   where
-    never : (a : Answer) (x : Refusal) → a ≡ answer.Ends (record { cause = c; completed = k; released = released; failed = s.worker.pending_requests.count }) → a ≡ answer.Refused x → ⊥
+    never : (a : Answer) (x : Refusal) → a ≡ answer.Ends (record { cause = c; completed = k; released = released; failed = s.worker.pending_requests.count }) → ◌≡◌ {A = Result Answer Refusal} (Ok a) (Err x) → ⊥
     never a x g f = let z : ◌≡◌ {A = ℕ} 0 1 = cc in absurd (omega arith)
 
 -- a redirect that is taken over is not counted yet

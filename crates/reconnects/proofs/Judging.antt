@@ -22,15 +22,15 @@ use Rattle.connector.specs.declared.Connector.{Connector}
 use Rattle.worker.specs.View.{worker_of}
 use Rattle.bidi_write.specs.Refusal.{number_of}
 use Rattle.admission.specs.Rows.{judge_rows, fail_rows}
-use Rattle.transport.specs.View.{phase_of, view}
+use Rattle.transport.specs.View.{left, phase_of, view}
 use Rattle.transport.specs.Valid.{Valid}
 use Rattle.transport.specs.Promise.{Promise}
 use Rattle.bidi_write.specs.Refusal.{checked}
 use Rattle.transport.specs.Parts.{renewed, EndsAs}
 use Rattle.reconnects.specs.Follows.{Follows, judged}
 use Rattle.transport.specs.declared.Answer.TheVariants as answer
-use Rattle.bidi_write.specs.declared.Check.{Check}
-use Rattle.bidi_write.specs.declared.Check.TheVariants as check
+use Rattle.std.specs.declared.result.Result.{Result}
+use Rattle.std.specs.Prelude.{Ok, Err}
 use Rattle.transport.specs.declared.Outcome.{Outcome}
 use Rattle.transport.specs.declared.Phase.TheVariants as phase
 use Rattle.bidi_write.specs.declared.Refusal.{Refusal}
@@ -113,33 +113,33 @@ module _ (s : Session) (redirect : Bool) (verdict : ℕ) (d : Connector)
 
 -- ---- the two calls
 
-abbrev judge_tests : ℕ → Bool → Check
+abbrev judge_tests : ℕ → Bool → Result (Unit {0}) Refusal
 judge_tests n valid = checked (judge_rows n valid)
 
-abbrev fail_tests : ℕ → Bool → Bool → Bool → Check
+abbrev fail_tests : ℕ → Bool → Bool → Bool → Result (Unit {0}) Refusal
 fail_tests n valid malformed long = checked (fail_rows n valid malformed long)
 
 -- where the code goes on, no token or handle is too long
-pub fail_short : (n : ℕ) (valid malformed long : Bool) → fail_tests n valid malformed long ≡ check.Go → long ≡ false
+pub fail_short : (n : ℕ) (valid malformed long : Bool) → fail_tests n valid malformed long ≡ Ok tt → long ≡ false
 fail_short n valid malformed long e = first_false long _ _ (later _ _ _ (later _ _ _ (later _ _ _ (later _ _ _ e))))
 
 module _ (verdict : ℕ) (v : R.Session) where
-  judge-refused : (x : Refusal) → judge_tests (R.phase_number v.phase) (not (no_verdict verdict)) ≡ check.Refuse x
+  judge-refused : (x : Refusal) → judge_tests (R.phase_number v.phase) (not (no_verdict verdict)) ≡ Err x
       → step (R.judge verdict) v ≡ R.answers (R.refused (number_of x)) v
   unfolding step judges R.unless
   judge-refused x e = refused v _ x _ (rw (not-not (no_verdict verdict)) at e)
 
-  judge_passed : judge_tests (R.phase_number v.phase) (not (no_verdict verdict)) ≡ check.Go → step (R.judge verdict) v ≡ judged (on_redirect v.phase) verdict v
+  judge_passed : judge_tests (R.phase_number v.phase) (not (no_verdict verdict)) ≡ Ok tt → step (R.judge verdict) v ≡ judged (on_redirect v.phase) verdict v
   unfolding step judges R.unless
   judge_passed e = passed v _ _ (rw (not-not (no_verdict verdict)) at e)
 
   module _ (b : M.Break) where
-    fail_refused : (x : Refusal) → fail_tests (R.phase_number v.phase) (not (no_verdict verdict)) (M.is_malformed b) (overlong (M.redirect_in b)) ≡ check.Refuse x
+    fail_refused : (x : Refusal) → fail_tests (R.phase_number v.phase) (not (no_verdict verdict)) (M.is_malformed b) (overlong (M.redirect_in b)) ≡ Err x
         → step (R.failed_attempt b verdict) v ≡ R.answers (R.refused (number_of x)) v
     unfolding step fails R.unless
     fail_refused x e = refused v _ x _ (rw (not-not (no_verdict verdict)) at e)
 
-    fail_passed : fail_tests (R.phase_number v.phase) (not (no_verdict verdict)) (M.is_malformed b) (overlong (M.redirect_in b)) ≡ check.Go
+    fail_passed : fail_tests (R.phase_number v.phase) (not (no_verdict verdict)) (M.is_malformed b) (overlong (M.redirect_in b)) ≡ Ok tt
         → step (R.failed_attempt b verdict) v
         ≡ judged (M.is_redirect b) verdict (R.set_worker (R.set_connector (rerouted (M.redirect_in b) v.worker.connector) v.worker) v)
     unfolding step fails R.unless
@@ -147,45 +147,45 @@ module _ (verdict : ℕ) (v : R.Session) where
 
 module _ (s : Session) (n verdict : ℕ) (phase_is : n ≡ R.phase_number (phase_of s.phase)) (valid : Bool) (valid-is : valid ≡ not (no_verdict verdict)) where
   module _ (store : Bytes) (table : List ℕ) (out : Bytes) where
-    judge-at : (o : Check) → judge_tests n valid ≡ o → judge_tests (R.phase_number (view s store table).phase) (not (no_verdict verdict)) ≡ o
+    judge-at : (o : Result (Unit {0}) Refusal) → judge_tests n valid ≡ o → judge_tests (R.phase_number (view s store table).phase) (not (no_verdict verdict)) ≡ o
     unfolding view
     judge-at o e = rw (sym phase_is, sym valid-is) e
 
-    pub judge-refuses : (x : Refusal) → judge_tests n valid ≡ check.Refuse x
-        → Promise (R.judge verdict) s store table out (record { session = s; answer = answer.Refused x }) store table out
+    pub judge-refuses : (x : Refusal) → judge_tests n valid ≡ Err x
+        → Promise (R.judge verdict) s store table out (left s (Err x)) store table out
     judge-refuses x e =
         refusal (R.judge verdict) s store table out x (first_free (R.judge verdict) s store table refl refl (λ f. over_first _ x _ e (ap (λ (k : ℕ). eqb k 6) phase_is ∙ f)))
-        (λ _. judge-refused verdict (view s store table) x (judge-at (check.Refuse x) e))
+        (λ _. judge-refused verdict (view s store table) x (judge-at (Err x) e))
 
-    pub judge_goes : (r : Outcome) → judge_tests n valid ≡ check.Go
+    pub judge_goes : (r : Outcome) → judge_tests n valid ≡ Ok tt
         → (R.is_ended (phase_of s.phase) ≡ false → Follows (judged (on_redirect (phase_of s.phase)) verdict) s r)
-        → Promise (R.judge verdict) s store table out r store table out
+        → Promise (R.judge verdict) s store table out (left s (Ok r)) store table out
     unfolding view
     judge_goes r e f =
         promise (R.judge verdict) _ s store table out r (first_free (R.judge verdict) s store table refl refl (λ g. clash g (runs s n phase_is _ _ e)))
-        (f (runs s n phase_is _ _ e)) (λ _. sym (judge_passed verdict (view s store table) (judge-at check.Go e)))
+        (f (runs s n phase_is _ _ e)) (λ _. sym (judge_passed verdict (view s store table) (judge-at (Ok tt) e)))
 
   module _ (b : M.Break) (malformed : Bool) (malformed_is : malformed ≡ M.is_malformed b) (long : Bool) (long-is : long ≡ overlong (M.redirect_in b)) where
     module _ (store : Bytes) (table : List ℕ) (out : Bytes) where
-      fail_at : (o : Check) → fail_tests n valid malformed long ≡ o
+      fail_at : (o : Result (Unit {0}) Refusal) → fail_tests n valid malformed long ≡ o
           → fail_tests (R.phase_number (view s store table).phase) (not (no_verdict verdict)) (M.is_malformed b) (overlong (M.redirect_in b)) ≡ o
       unfolding view
       fail_at o e = rw (sym phase_is, sym valid-is, sym malformed_is, sym long-is) e
 
-      pub fail_refuses : (x : Refusal) → fail_tests n valid malformed long ≡ check.Refuse x
-          → Promise (R.failed_attempt b verdict) s store table out (record { session = s; answer = answer.Refused x }) store table out
+      pub fail_refuses : (x : Refusal) → fail_tests n valid malformed long ≡ Err x
+          → Promise (R.failed_attempt b verdict) s store table out (left s (Err x)) store table out
       fail_refuses x e =
           refusal (R.failed_attempt b verdict) s store table out x
           (first_free (R.failed_attempt b verdict) s store table refl refl (λ f. over_first _ x _ e (ap (λ (k : ℕ). eqb k 6) phase_is ∙ f)))
-          (λ _. fail_refused verdict (view s store table) b x (fail_at (check.Refuse x) e))
+          (λ _. fail_refused verdict (view s store table) b x (fail_at (Err x) e))
 
       -- d is the connector with the redirect taken over
-      pub fail_goes : (d : Connector) (r : Outcome) → fail_tests n valid malformed long ≡ check.Go
+      pub fail_goes : (d : Connector) (r : Outcome) → fail_tests n valid malformed long ≡ Ok tt
           → connector_of d ≡ rerouted (M.redirect_in b) (connector_of s.worker.connector)
           → (SpecFits s.worker.connector.spec → SpecFits d.spec)
           → (R.is_ended (phase_of s.phase) ≡ false
           → Follows (judged (M.is_redirect b) verdict) (renewed d s.worker.self_flush_outstanding s.phase s.sent s) r)
-          → Promise (R.failed_attempt b verdict) s store table out r store table out
+          → Promise (R.failed_attempt b verdict) s store table out (left s (Ok r)) store table out
       unfolding view worker_of
       fail_goes d r e d-is fits f =
           promise (R.failed_attempt b verdict)
@@ -197,7 +197,7 @@ module _ (s : Session) (n verdict : ℕ) (phase_is : n ≡ R.phase_number (phase
                 ∙ ap (λ (c : R.Connector). judged (M.is_redirect b) verdict (R.set_worker (R.set_connector c (view s store table).worker) (view s store table))) d-is;
             stays = λ store table v. (f run).stays store table (kept store table v);
           })
-          (λ _. sym (fail_passed verdict (view s store table) b (fail_at check.Go e)))
+          (λ _. sym (fail_passed verdict (view s store table) b (fail_at (Ok tt) e)))
         where
           run : R.is_ended (phase_of s.phase) ≡ false
           run = runs s n phase_is _ _ e

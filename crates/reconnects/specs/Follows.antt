@@ -1,5 +1,6 @@
 -- A call past its refusals: what a rule says of the rest.
 use Rattle.std.specs.Prelude.{◌≡◌, Bool, false, cond, List, ℕ}
+use Rattle.std.specs.Prelude.{Ok}
 use Rattle.rules.specs.Message.{Bytes}
 use Rattle.rules.specs.Session as R
 use Rattle.rules.specs.Reconnect.{ruling, counted, ruled}
@@ -16,9 +17,9 @@ use Rattle.transport.specs.declared.Session.{Session}
 
 -- r answers and leaves what the rule says, refuses nothing and sends no data
 pub record Follows (rule : R.Session → R.Result) (s : Session) (r : Outcome) : Type 0 where
-  pub quiet : Quiet r.answer
+  pub quiet : Quiet (Ok r.answer)
   pub steps : (store : Bytes) (table : List ℕ) (out : Bytes) → Valid s store table
-      → R.answers (answer_of r.answer out) (view r.session store table) ≡ rule (view s store table)
+      → R.answers (answer_of (Ok r.answer) out) (view r.session store table) ≡ rule (view s store table)
   pub stays : (store : Bytes) (table : List ℕ) → Valid s store table → Valid r.session store table
 
 -- a verdict on a redirect or not, as the rules count and rule it

@@ -16,7 +16,7 @@ use Rattle.rules.specs.Step.{step}
 use Rattle.worker.proofs.Waiters.{element_past}
 use Rattle.bidi_write.specs.Refusal.{number_of}
 use Rattle.admission.specs.Rows.{next_rows}
-use Rattle.transport.specs.View.{phase_of, view}
+use Rattle.transport.specs.View.{Left, phase_of, view, left}
 use Rattle.transport.specs.Valid.{GuardedAt, Valid}
 use Rattle.transport.specs.Promise.{First, Promise}
 use Rattle.bidi_write.specs.Refusal.{checked}
@@ -26,9 +26,9 @@ use Rattle.transport.specs.declared.Phase.{Phase}
 use Rattle.transport.specs.declared.Phase.TheVariants as phase
 use Rattle.transport.specs.declared.Session.{Session}
 use Rattle.bidi_write.specs.declared.Refusal.{Refusal}
-use Rattle.transport.specs.declared.Answer.TheVariants as answer
-use Rattle.bidi_write.specs.declared.Check.{Check}
-use Rattle.bidi_write.specs.declared.Check.TheVariants as check
+use Rattle.transport.proofs.Refused.{accepted}
+use Rattle.std.specs.declared.result.Result.{Result}
+use Rattle.std.specs.Prelude.{Ok, Err}
 use Rattle.transport.specs.declared.Outcome.{Outcome}
 use Rattle.rules.proofs.Tests.{clash}
 use Rattle.bidi_write.proofs.Rows.{refused, passed, first_false, later}
@@ -36,25 +36,25 @@ use Rattle.transport.proofs.First.{first_goes}
 use Rattle.transport.proofs.Refused as laws
 use Rattle.transport.proofs.Numbers.{chunks_are}
 
-abbrev pub next_tests : ℕ → Bool → Check
+abbrev pub next_tests : ℕ → Bool → Result (Unit {0}) Refusal
 next_tests n short = checked (next_rows n short)
 
 -- the rule's last test
 abbrev short : ℕ → R.Session → Bool
 short out v = is_given (get_elem? (R.chunks v) (place v.phase)) && R.short_out out v
 
-rule-refuses : (out : ℕ) (v : R.Session) (x : Refusal) → next_tests (R.phase_number v.phase) (short out v) ≡ check.Refuse x
+rule-refuses : (out : ℕ) (v : R.Session) (x : Refusal) → next_tests (R.phase_number v.phase) (short out v) ≡ Err x
     → step (R.next_request out) v ≡ R.answers (R.refused (number_of x)) v
 unfolding step hands R.unless
 rule-refuses out v x e = refused v _ x _ e
 
-rule-hands : (out : ℕ) (v : R.Session) → next_tests (R.phase_number v.phase) (short out v) ≡ check.Go
+rule-hands : (out : ℕ) (v : R.Session) → next_tests (R.phase_number v.phase) (short out v) ≡ Ok tt
     → step (R.next_request out) v ≡ hands_chunk (get_elem? (R.chunks v) (place v.phase)) (place v.phase) v
 unfolding step hands R.unless
 rule-hands out v e = passed v _ _ e
 
 -- where the code goes on, the last two tests do not hold
-goes_on : (n : ℕ) (out : Bool) → next_tests n out ≡ check.Go → (not (eqb n 4) ≡ false) × (out ≡ false)
+goes_on : (n : ℕ) (out : Bool) → next_tests n out ≡ Ok tt → (not (eqb n 4) ≡ false) × (out ≡ false)
 goes_on n out e =
     let phase = later (eqb n 6) _ _ e in
     (first_false (not (eqb n 4)) _ _ phase, first_false out _ _ (later (not (eqb n 4)) _ _ phase))
@@ -91,7 +91,7 @@ module _ (s : Session) (store : Bytes) (table : List ℕ) (out : Bytes) (n : ℕ
   abbrev short_out_lem : Bool
   short_out_lem = ltb (length out) s.limit
 
-  first : {r : Outcome} {out' : Bytes} → First (R.next_request (length out)) s store table out r store table out'
+  first : {r : Left} {out' : Bytes} → First (R.next_request (length out)) s store table out r store table out'
   first = first_goes (R.next_request (length out)) s store table refl on g
 
   place_at : place (view s store table).phase ≡ at.next
@@ -105,17 +105,17 @@ module _ (s : Session) (store : Bytes) (table : List ℕ) (out : Bytes) (n : ℕ
       (ap (ltb at.next) (sym (chunks_are s store table v)) ∙ sym (given_is (R.chunks (view s store table)) at.next)
       ∙ ap (λ (i : ℕ). is_given (get_elem? (R.chunks (view s store table)) i)) (sym place_at))
 
-  at-view : (o : Check) → next_tests n (more && short_out_lem) ≡ o → Valid s store table
+  at-view : (o : Result (Unit {0}) Refusal) → next_tests n (more && short_out_lem) ≡ o → Valid s store table
       → next_tests (R.phase_number (view s store table).phase) (short (length out) (view s store table)) ≡ o
   unfolding view
   at-view o e v = rw (sym phase_is, sym (short_is v)) e
 
-  pub next-refuses : (x : Refusal) → next_tests n (more && short_out_lem) ≡ check.Refuse x
-      → Promise (R.next_request (length out)) s store table out (record { session = s; answer = answer.Refused x }) store table out
+  pub next-refuses : (x : Refusal) → next_tests n (more && short_out_lem) ≡ Err x
+      → Promise (R.next_request (length out)) s store table out (record { session = s; answer = Err x }) store table out
   next-refuses x e =
-      laws.refusal (R.next_request (length out)) s store table out x first (λ v. rule-refuses (length out) (view s store table) x (at-view (check.Refuse x) e v))
+      laws.refusal (R.next_request (length out)) s store table out x first (λ v. rule-refuses (length out) (view s store table) x (at-view (Err x) e v))
 
-  module _ (goes : next_tests n (more && short_out_lem) ≡ check.Go) where
+  module _ (goes : next_tests n (more && short_out_lem) ≡ Ok tt) where
     here : s.phase ≡ phase.Replay at
     here =
         in_replay s.phase (ap (λ (k : ℕ). eqb k 4) (sym phase_is) ∙ not-false (eqb n 4) (goes_on n (more && short_out_lem) goes).0)
@@ -128,14 +128,14 @@ module _ (s : Session) (store : Bytes) (table : List ℕ) (out : Bytes) (n : ℕ
     rule_is : Valid s store table → step (R.next_request (length out)) (view s store table)
         ≡ hands_chunk (get_elem? (R.chunks (view s store table)) at.next) at.next (view s store table)
     rule_is v =
-        rule-hands (length out) (view s store table) (at-view check.Go goes v)
+        rule-hands (length out) (view s store table) (at-view (Ok tt) goes v)
         ∙ ap (λ (i : ℕ). hands_chunk (get_elem? (R.chunks (view s store table)) i) i (view s store table)) place_at
 
     pub next_chunk : (r : Outcome) (out' : Bytes) → more ≡ true → HandsChunk s store table at out r out'
-        → Promise (R.next_request (length out)) s store table out r store table out'
+        → Promise (R.next_request (length out)) s store table out (left s (Ok r)) store table out'
     next_chunk r out' m h = record {
       first = first;
-      refuses = λ x f. absurd (h.accepts x f);
+      refuses = λ x f. absurd (accepted r.answer x f);
       takes = omega (arith, h.none_taken);
       store_beyond = refl;
       table_beyond = refl;
@@ -146,7 +146,7 @@ module _ (s : Session) (store : Bytes) (table : List ℕ) (out : Bytes) (n : ℕ
       stays = λ v. (h.hands v here (ltb-true _ _ m) (room m)).stays;
     }
 
-    pub next-rest : (r : Outcome) → more ≡ false → HandsRest s at r → Promise (R.next_request (length out)) s store table out r store table out
+    pub next-rest : (r : Outcome) → more ≡ false → HandsRest s at r → Promise (R.next_request (length out)) s store table out (left s (Ok r)) store table out
     next-rest r m h = record {
       first = first;
       refuses = λ x f. absurd (h.quiet.accepts x f);

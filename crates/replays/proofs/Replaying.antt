@@ -42,24 +42,21 @@ use Rattle.transport.specs.declared.Sent.{Sent}
 use Rattle.transport.specs.declared.Sent.TheVariants as sent
 use Rattle.transport.specs.declared.Session.{Session}
 use Rattle.bidi_write.specs.declared.Refusal.{Refusal}
+use Rattle.std.specs.declared.result.Result.{Result}
+use Rattle.std.specs.Prelude.{Ok, Err}
+use Rattle.transport.specs.declared.Answer.{Answer}
 use Rattle.transport.specs.declared.Answer.TheVariants as answer
 use Rattle.transport.specs.declared.Outcome.{Outcome}
 use Rattle.transport.proofs.Numbers.{fits, chunks_are, waiters_are, watermark_is}
 use Rattle.transport.proofs.Bare.{unmarked, bare_is, with_mark}
+use Rattle.transport.proofs.Refused.{accepted}
 use Rattle.transport.proofs.Views.{valid_phase}
 
 -- ---- the answers
 
-no_sends : (r : code.Request) (x : Refusal) → answer.Sends r ≡ answer.Refused x → ⊥
-no_sends r x e = let z : ◌≡◌ {A = ℕ} 0 1 = cc in absurd (omega arith)
-
-no_done : (x : Refusal) → answer.Done ≡ answer.Refused x → ⊥
-no_done x e = let z : ◌≡◌ {A = ℕ} 0 1 = cc in absurd (omega arith)
-
--- a request without data
-quiet : (m : code.Request) (q : Request) → q.checksummed_data ≡ none → ((o : Bytes) → request_of m o ≡ q) → Quiet (answer.Sends m)
+quiet : (m : code.Request) (q : Request) → q.checksummed_data ≡ none → ((o : Bytes) → request_of m o ≡ q) → Quiet (Ok (answer.Sends m))
 quiet m q e asks = record {
-  accepts = no_sends m;
+  accepts = accepted _;
   none_taken = refl;
   none_sent = no_length m [] q (asks []) e;
   has_no_data = λ o. ap (λ (r : Request). content_of r.checksummed_data) (asks o) ∙ ap content_of e;
@@ -119,7 +116,7 @@ module _ (s : Session) (store : Bytes) (table : List ℕ) (at : Cursor) (out : B
   bytes-length : length bytes ≡ c.length
   bytes-length = omega (arith, reads.in_out, kept, simp (length-append, length-drop) at (ap length reads.out_is))
 
-  data_is : sent_data (answer.Sends m) out' ≡ bytes
+  data_is : sent_data (Ok (answer.Sends m)) out' ≡ bytes
   data_is =
       ap (λ (r : Request). content_of r.checksummed_data) (carries out') ∙ ap (take c.length) reads.out_is
       ∙ take_at bytes (drop c.length out) c.length bytes-length
@@ -154,7 +151,6 @@ module _ (s : Session) (store : Bytes) (table : List ℕ) (at : Cursor) (out : B
 
   pub hands_chunk_lem : HandsChunk s store table at out (record { session = set_phase (phase.Replay k) sent.Request s; answer = answer.Sends m }) out'
   hands_chunk_lem = record {
-    accepts = no_sends m;
     none_taken = refl;
     fills = rw (data_is, length_is) reads.out_is;
     sent_is = rw (data_is, length_is) bytes-length;
@@ -265,7 +261,7 @@ module _ (s : Session) (at : Cursor) (needed : needs_flush s ≡ true) (m : code
 pub hands-done : (s : Session) (at : Cursor) → needs_flush s ≡ false → HandsLast s at (record { session = set_phase phase.Live sent.Nothing s; answer = answer.Done })
 unfolding view R.choose
 hands-done s at e = record {
-  quiet = record { accepts = no_done; none_taken = refl; none_sent = refl; has_no_data = λ out. refl };
+  quiet = record { accepts = accepted _; none_taken = refl; none_sent = refl; has_no_data = λ out. refl };
   hands = λ store table out v here past. record {
     steps = sym (chosen (R.watermark (view s store table)) false _ _ (sym (watermark_is s store table v) ∙ e));
     stays = valid_phase phase.Live sent.Nothing s store table v (λ _. followed s store table at v here) tt;

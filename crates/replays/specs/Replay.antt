@@ -12,8 +12,7 @@ use Rattle.transport.specs.declared.Cursor.{Cursor}
 use Rattle.transport.specs.declared.Phase.{Phase}
 use Rattle.transport.specs.declared.Phase.TheVariants as phase
 use Rattle.transport.specs.declared.Session.{Session}
-use Rattle.bidi_write.specs.declared.Refusal.{Refusal}
-use Rattle.transport.specs.declared.Answer.TheVariants as answer
+use Rattle.std.specs.Prelude.{Ok}
 use Rattle.transport.specs.declared.Outcome.{Outcome}
 
 abbrev pub beginning : Cursor
@@ -35,27 +34,26 @@ pub record Further (at : Cursor) (bytes : ℕ) (k : Cursor) : Type 0 where
 
 -- the answer and the session after are the rule's, and the session is valid
 pub record Accepts (store : Bytes) (table : List ℕ) (r : Outcome) (out' : Bytes) (result : R.Result) : Type 0 where
-  pub steps : R.answers (answer_of r.answer out') (view r.session store table) ≡ result
+  pub steps : R.answers (answer_of (Ok r.answer) out') (view r.session store table) ≡ result
   pub stays : Valid r.session store table
 
 -- the chunk at the cursor
 pub record HandsChunk (s : Session) (store : Bytes) (table : List ℕ) (at : Cursor) (out : Bytes) (r : Outcome) (out' : Bytes) : Type 0 where
-  pub accepts : (x : Refusal) → r.answer ≡ answer.Refused x → ⊥
-  pub none_taken : taken_in r.answer ≡ 0
-  pub fills : out' ≡ sent_data r.answer out' ++ drop (sent_length r.answer) out
-  pub sent_is : length (sent_data r.answer out') ≡ sent_length r.answer
-  pub sent_in : sent_length r.answer ≤ length out
+  pub none_taken : taken_in (Ok r.answer) ≡ 0
+  pub fills : out' ≡ sent_data (Ok r.answer) out' ++ drop (sent_length (Ok r.answer)) out
+  pub sent_is : length (sent_data (Ok r.answer) out') ≡ sent_length (Ok r.answer)
+  pub sent_in : sent_length (Ok r.answer) ≤ length out
   pub hands : Valid s store table → s.phase ≡ phase.Replay at → at.next < s.worker.replay_buffer.chunks → s.limit ≤ length out
       → Accepts store table r out' (hands_chunk (get_elem? (R.chunks (view s store table)) at.next) at.next (view s store table))
 
 -- what stands behind the chunks
 pub record HandsRest (s : Session) (at : Cursor) (r : Outcome) : Type 0 where
-  pub quiet : Quiet r.answer
+  pub quiet : Quiet (Ok r.answer)
   pub hands : (store : Bytes) (table : List ℕ) (out : Bytes) → Valid s store table → s.phase ≡ phase.Replay at
       → s.worker.replay_buffer.chunks ≤ at.next → Accepts store table r out (hands_chunk none at.next (view s store table))
 
 -- what stands behind the waiting requests
 pub record HandsLast (s : Session) (at : Cursor) (r : Outcome) : Type 0 where
-  pub quiet : Quiet r.answer
+  pub quiet : Quiet (Ok r.answer)
   pub hands : (store : Bytes) (table : List ℕ) (out : Bytes) → Valid s store table → s.phase ≡ phase.Replay at
       → s.worker.replay_buffer.chunks ≤ at.next → Accepts store table r out (hands_last at.next (view s store table))

@@ -3,80 +3,50 @@
 // And a send reported failed, which ends a replay.
 #![tactic(auto)]
 
-ghost use Rattle.std.specs.Prelude.{◌≡◌, false, not, ◌&&◌, ◌+◌, ◌<◌, ◌≤◌, ◌^◌, length};
+ghost use Rattle.std.specs.Prelude.{◌≡◌, not, ◌&&◌, ◌≤◌, length};
 ghost use Rattle.rules.specs.Limits.{max_waiters};
 ghost use Rattle.rules.specs.Session as R;
 ghost use Rattle.rules.specs.Replay.{is_nothing, is_bare};
 ghost use Rattle.transport.specs.Promise.{Promise, Promised};
-ghost use Rattle.transport.specs.View.{phase_of, sent_of};
+ghost use Rattle.transport.specs.View.{sent_of, left};
 ghost use Rattle.replays.specs.Replay.{cursor_of, Further, HandsChunk, HandsRest, HandsLast};
 ghost use Rattle.replays.specs.Unsent.{stopped};
 ghost use Rattle.transport.specs.Valid.{GuardedAt};
 
-use bidi_write::{Check, both};
+use bidi_write::Refusal;
 use transport::guard::enter;
 use transport::parts::{renew, set_phase};
 use transport::phases::phase_number;
 use transport::{Answer, Cursor, Outcome, Phase, Sent, Session};
 
-pub fn next_request(s: Session, store: &[u8], table: &[u64], out: &mut [u8]) -> Outcome
-    ensures { Promise (R.next_request (length out.old)) s store.now table.now out.old result store.now table.now out.new }
+pub fn next_request(
+    s: Session,
+    store: &[u8],
+    table: &[u64],
+    out: &mut [u8],
+) -> Result<Outcome, Refusal>
+    ensures { Promise (R.next_request (length out.old)) s store.now table.now out.old (left s result) store.now table.now out.new }
 {
-    let way = enter(s, store.len(), table.len());
-    match way {
-        Check::Refuse(first) => Outcome {
-            session: s,
-            answer: Answer::Refused(first),
-        },
-        Check::Go => next_guarded(s, store, table, out),
-    }
-}
-
-fn next_guarded(s: Session, store: &[u8], table: &[u64], out: &mut [u8]) -> Outcome
-    requires phase_value { R.is_ended (phase_of s.phase) ≡ false }
-    requires guarded_at { GuardedAt s (length store.now) (length table.now) }
-    ensures { Promise (R.next_request (length out.old)) s store.now table.now out.old result store.now table.now out.new }
-{
-    let p = s.phase;
-    let phase = phase_number(p);
-    let at = cursor(p);
+    enter(s, store.len(), table.len())?;
+    let at = cursor(s.phase);
     let more = at.next < s.worker.replay_buffer.chunks;
-    let short = both(more, out.len() < s.limit);
-    let way = admission::next_request(phase, short);
-    match way {
-        Check::Refuse(x) => Outcome {
-            session: s,
-            answer: Answer::Refused(x),
-        },
-        Check::Go => {
-            if more {
-                hand_chunk(s, store, table, out, at)
-            } else {
-                hand_rest(s, at)
-            }
-        }
+    let short = more && out.len() < s.limit;
+    admission::next_request(phase_number(s.phase), short)?;
+    if more {
+        return Ok(hand_chunk(s, store, table, out, at));
     }
+    Ok(hand_rest(s, at))
 }
 
 // Where a replay stands; at its beginning in any other phase.
 fn cursor(p: Phase) -> Cursor
     ensures { result ≡ cursor_of p }
 {
-    match p {
-        Phase::Live => Cursor { next: 0, bytes: 0 },
-        Phase::Closing => Cursor { next: 0, bytes: 0 },
-        Phase::Connecting => Cursor { next: 0, bytes: 0 },
-        Phase::Verdict(_) => Cursor { next: 0, bytes: 0 },
-        Phase::Replay(c) => c,
-        Phase::Ended(_) => Cursor { next: 0, bytes: 0 },
+    if let Phase::Replay(c) = p {
+        c
+    } else {
+        Cursor { next: 0, bytes: 0 }
     }
-}
-
-// The sum, where it fits.
-fn plus(a: usize, b: usize) -> usize
-    ensures { a + b < 2 ^ 64 → result ≡ a + b }
-{
-    if b <= usize::MAX - a { a + b } else { a }
 }
 
 // One request more, which carried so many bytes.
@@ -84,8 +54,8 @@ fn advance(at: Cursor, bytes: usize) -> Cursor
     ensures { Further at bytes result }
 {
     Cursor {
-        next: plus(at.next, 1),
-        bytes: plus(at.bytes, bytes),
+        next: at.next.saturating_add(1),
+        bytes: at.bytes.saturating_add(bytes),
     }
 }
 
@@ -96,17 +66,22 @@ fn hand_chunk(s: Session, store: &[u8], table: &[u64], out: &mut [u8], at: Curso
 {
     let b = s.worker.replay_buffer;
     let size = replay_buffer::ring_size(b.capacity, s.limit);
-    let end = s.write_offset;
     let c = replay_buffer::chunk_to_replay(
-        b, store, size, table, s.slots, end, at.next, at.bytes, out,
+        b,
+        store,
+        size,
+        table,
+        s.slots,
+        s.write_offset,
+        at.next,
+        at.bytes,
+        out,
     );
-    let place = c.write_offset;
-    let length = c.length;
-    let chunk = worker::chunk_request(place, length, c.crc32c, false);
-    let t = set_phase(s, Phase::Replay(advance(at, length)), Sent::Request);
+    let replay = Phase::Replay(advance(at, c.length));
+    let request = worker::chunk_request(c.write_offset, c.length, c.crc32c, false);
     Outcome {
-        session: t,
-        answer: Answer::Sends(chunk),
+        session: set_phase(s, replay, Sent::Request),
+        answer: Answer::Sends(request),
     }
 }
 
@@ -115,17 +90,13 @@ fn hand_rest(s: Session, at: Cursor) -> Outcome
     requires { (s.worker.replay_buffer.chunks ≤ at.next) × (s.worker.pending_requests.count ≤ max_waiters) }
     ensures { HandsRest s at result }
 {
-    let w = s.worker;
-    let b = w.replay_buffer;
-    let q = w.pending_requests;
-    let waiting = q.count;
-    let i = at.next - b.chunks;
-    if i < waiting {
-        let request = q.nth(i).request();
-        let t = set_phase(s, Phase::Replay(advance(at, 0)), Sent::Request);
+    let waiting = s.worker.pending_requests;
+    let i = at.next - s.worker.replay_buffer.chunks;
+    if i < waiting.count {
+        let replay = Phase::Replay(advance(at, 0));
         return Outcome {
-            session: t,
-            answer: Answer::Sends(request),
+            session: set_phase(s, replay, Sent::Request),
+            answer: Answer::Sends(waiting.nth(i).request()),
         };
     }
     hand_last(s, at)
@@ -136,22 +107,21 @@ fn hand_last(s: Session, at: Cursor) -> Outcome
     ensures { HandsLast s at result }
 {
     let w = s.worker;
-    let b = w.replay_buffer;
-    let q = w.pending_requests;
-    let mark = w.self_flush_outstanding;
-    if worker::needs_watermark_flush(q.count, mark, b.unpersisted_bytes, b.capacity, s.limit) {
-        let end = s.write_offset;
-        let flush = worker::flush_request(end);
-        let after = w.set_mark(true);
-        let t = renew(s, after, Phase::Replay(advance(at, 0)), Sent::BareFlush);
+    if worker::needs_watermark_flush(
+        w.pending_requests.count,
+        w.self_flush_outstanding,
+        w.replay_buffer.unpersisted_bytes,
+        w.replay_buffer.capacity,
+        s.limit,
+    ) {
+        let replay = Phase::Replay(advance(at, 0));
         return Outcome {
-            session: t,
-            answer: Answer::Sends(flush),
+            session: renew(s, w.set_mark(true), replay, Sent::BareFlush),
+            answer: Answer::Sends(worker::flush_request(s.write_offset)),
         };
     }
-    let t = set_phase(s, Phase::Live, Sent::Nothing);
     Outcome {
-        session: t,
+        session: set_phase(s, Phase::Live, Sent::Nothing),
         answer: Answer::Done,
     }
 }
@@ -159,63 +129,36 @@ fn hand_last(s: Session, at: Cursor) -> Outcome
 // ---- a send reported failed
 
 // "Allowed directly after an accepted call that sent ..., else 6, ends a replay, clears the mark after a bare flush, and else changes nothing."
-pub fn send_failed(s: Session) -> Outcome
-    ensures { Promised R.send_failed s result }
+pub fn send_failed(s: Session) -> Result<Outcome, Refusal>
+    ensures { Promised R.send_failed s (left s result) }
 {
-    let p = s.phase;
-    let n = s.sent;
-    let phase = phase_number(p);
-    let nothing = is_nothing(n);
-    let way = admission::send_failed(phase, nothing);
-    match way {
-        Check::Refuse(x) => Outcome {
-            session: s,
-            answer: Answer::Refused(x),
-        },
-        Check::Go => {
-            let w = s.worker;
-            let mark = mark_after(w.self_flush_outstanding, n);
-            let after = w.set_mark(mark);
-            let next = stop_replay(p);
-            let t = renew(s, after, next, Sent::Nothing);
-            Outcome {
-                session: t,
-                answer: Answer::Accepted,
-            }
-        }
-    }
+    admission::send_failed(phase_number(s.phase), is_nothing(s.sent))?;
+    let w = s.worker;
+    let mark = mark_after(w.self_flush_outstanding, s.sent);
+    Ok(Outcome {
+        session: renew(s, w.set_mark(mark), stop_replay(s.phase), Sent::Nothing),
+        answer: Answer::Accepted,
+    })
 }
 
 fn is_nothing(n: Sent) -> bool
     ensures { result ≡ is_nothing (sent_of n) }
 {
-    match n {
-        Sent::Nothing => true,
-        Sent::Request => false,
-        Sent::BareFlush => false,
-    }
+    matches!(n, Sent::Nothing)
 }
 
 // A bare flush that was not sent awaits no response.
 fn mark_after(mark: bool, n: Sent) -> bool
     ensures { result ≡ (mark && not (is_bare (sent_of n))) }
 {
-    match n {
-        Sent::Nothing => mark,
-        Sent::Request => mark,
-        Sent::BareFlush => false,
-    }
+    mark && !matches!(n, Sent::BareFlush)
 }
 
 fn stop_replay(p: Phase) -> Phase
     ensures { result ≡ stopped p }
 {
     match p {
-        Phase::Live => p,
-        Phase::Closing => p,
-        Phase::Connecting => p,
-        Phase::Verdict(_) => p,
         Phase::Replay(_) => Phase::Live,
-        Phase::Ended(_) => p,
+        _ => p,
     }
 }

@@ -20,32 +20,28 @@ use Rattle.transport.specs.View.{phase_of, view}
 use Rattle.transport.specs.Valid.{Valid}
 use Rattle.transport.specs.Parts.{set_phase, set_worker, EndsAs}
 use Rattle.transport.specs.Promise.{Quiet}
-use Rattle.responses.specs.Respond.{Flushes, Answers}
+use Rattle.responses.specs.Respond.{completes, Flushes, Answers}
 use Rattle.transport.specs.declared.Answer.{Answer}
 use Rattle.transport.specs.declared.Answer.TheVariants as answer
-use Rattle.transport.specs.declared.Completed.{Completed}
 use Rattle.transport.specs.declared.Ending.{Ending}
-use Rattle.transport.specs.declared.MaybeRequest.{MaybeRequest}
-use Rattle.transport.specs.declared.MaybeRequest.TheVariants as maybe
+use Rattle.std.specs.Prelude.{Some, None, Ok, Err}
+use Rattle.std.specs.declared.result.Result.{Result}
 use Rattle.transport.specs.declared.Outcome.{Outcome}
 use Rattle.transport.specs.declared.Phase.TheVariants as phase
 use Rattle.bidi_write.specs.declared.Refusal.{Refusal}
 use Rattle.transport.specs.declared.Sent.TheVariants as sent
 use Rattle.transport.specs.declared.Session.{Session}
 use Rattle.sizes.specs.declared.Settled.{Settled}
-use Rattle.sizes.specs.declared.Way.TheVariants as way
 use Rattle.worker.proofs.Lengths.{no_length}
 use Rattle.rules.proofs.Tests.{and_left, and_right}
 use Rattle.transport.proofs.Numbers.{watermark_is}
+use Rattle.transport.proofs.Refused.{accepted}
 use Rattle.transport.proofs.Views.{no_cursor, live_no_replay}
 use Rattle.transport.proofs.Bare.{bare_is}
 use Rattle.sizes.proofs.Taking.{chosen, passed_over}
 use Rattle.transport.proofs.Views.{valid_phase}
 
 -- ---- whether a bare flush is sent
-
-pub flushes_not : (s : Session) (n : ℕ) → n ≡ R.phase_number (phase_of s.phase) → eqb n 1 ≡ false → Flushes s false
-flushes_not s n is e = record { flushes = λ store table v. sym (ap (λ (x : Bool). x && R.watermark (view s store table)) (ap (λ (x : ℕ). eqb x 1) (sym is) ∙ e)) }
 
 pub flushes_at : (s : Session) (n : ℕ) → n ≡ R.phase_number (phase_of s.phase) → eqb n 1 ≡ true → (low : Bool)
     → low ≡ (eqb s.worker.pending_requests.count 0 && not s.worker.self_flush_outstanding
@@ -59,18 +55,12 @@ flushes_at s n is e low l = record {
 
 -- ---- the answers
 
-completes_accepts : (d : Completed) (x : Refusal) → answer.Completes d ≡ answer.Refused x → ⊥
-completes_accepts d x e = let z : ◌≡◌ {A = ℕ} 0 1 = cc in absurd (omega arith)
+-- an accepted call's answer that takes nothing and hands nothing out
+settles_quietly : (k : Settled) → Quiet (Ok (completes k None))
+settles_quietly k = record { accepts = accepted _; none_taken = refl; none_sent = refl; has_no_data = λ out. refl }
 
--- what was settled, with a request or none
-abbrev settles : Settled → MaybeRequest → Answer
-settles k r = answer.Completes (record { waiters = k.completed; released = k.released; request = r })
-
-settles_quietly : (k : Settled) → Quiet (settles k maybe.Absent)
-settles_quietly k = record { accepts = completes_accepts _; none_taken = refl; none_sent = refl; has_no_data = λ out. refl }
-
-ends_quiet : (d : Ending) → Quiet (answer.Ends d)
-ends_quiet d = record { accepts = λ x e. let z : ◌≡◌ {A = ℕ} 0 1 = cc in absurd (omega arith); none_taken = refl; none_sent = refl; has_no_data = λ out. refl }
+ends_quiet : (d : Ending) → Quiet (Ok (answer.Ends d))
+ends_quiet d = record { accepts = accepted _; none_taken = refl; none_sent = refl; has_no_data = λ out. refl }
 
 -- the worker with an own flush outstanding
 abbrev pub marked : Worker → Worker
@@ -94,13 +84,13 @@ module _ (s : Session) (k : Settled) where
         (is out ∙ sym (bare_is s store table v (and_right (R.is_live (phase_of s.phase)) (R.watermark (view s store table)) (sym (asked.flushes store table v)))))
         ∙ sym (chosen _ _ (sym (asked.flushes store table v)))
 
-    pub answers-flush : Answers last_step (way.On k) s (record {
+    pub answers-flush : Answers last_step None k s (record {
       session = set_phase s.phase sent.BareFlush (set_worker (marked s.worker) s);
-      answer = settles k (maybe.Present q);
+      answer = completes k (Some q);
     })
     answers-flush = record {
       quiet = record {
-        accepts = completes_accepts _;
+        accepts = accepted _;
         none_taken = refl;
         none_sent = no_length q [] _ (is []) refl;
         has_no_data = λ out. rw (is out);
@@ -117,7 +107,7 @@ module _ (s : Session) (k : Settled) where
       };
     }
 
-  pub answers-nothing : Flushes s false → Answers last_step (way.On k) s (record { session = set_phase s.phase sent.Nothing s; answer = settles k maybe.Absent })
+  pub answers-nothing : Flushes s false → Answers last_step None k s (record { session = set_phase s.phase sent.Nothing s; answer = completes k None })
   unfolding last_step view
   answers-nothing asked = record {
     quiet = settles_quietly k;
@@ -125,9 +115,9 @@ module _ (s : Session) (k : Settled) where
     stays = λ store table e v. valid_phase s.phase sent.Nothing s store table v v.followed v.cursor;
   }
 
-  pub answers-replay : Answers to_replay (way.On k) s (record {
+  pub answers-replay : Answers to_replay None k s (record {
     session = set_phase (phase.Replay (record { next = 0; bytes = 0 })) sent.Nothing s;
-    answer = settles k maybe.Absent;
+    answer = completes k None;
   })
   unfolding to_replay view
   answers-replay = record {
@@ -136,9 +126,9 @@ module _ (s : Session) (k : Settled) where
     stays = λ store table e v. valid_phase _ sent.Nothing s store table v (λ _. v.followed e) (refl, omega arith);
   }
 
-  pub answers-end : (last : ℕ → ℕ → R.Session → R.Result) (c : Cause) (r : Outcome) → EndsAs c k.completed k.released s r → Answers last (way.Ends c k) s r
+  pub answers-end : (last : ℕ → ℕ → R.Session → R.Result) (c : Cause) (r : Outcome) → EndsAs c k.completed k.released s r → Answers last (Some c) k s r
   answers-end last c r ends = record {
-    quiet = subst Quiet (sym ends.answer_is) (ends_quiet _);
+    quiet = subst (λ (a : Answer). Quiet (Ok a)) (sym ends.answer_is) (ends_quiet _);
     answers = ends.ends;
     stays = λ store table e v. ends.stays store table v;
   }

@@ -11,16 +11,15 @@ use Rattle.rules.specs.Session as R
 use Rattle.rules.specs.Respond.{updated, progress, takes, last_step, to_replay, responds, shakes}
 use Rattle.rules.specs.Step.{step}
 use Rattle.bidi_write.specs.Refusal.{number_of}
-use Rattle.transport.specs.View.{phase_of, view, answer_of}
+use Rattle.transport.specs.View.{phase_of, view, answer_of, left}
 use Rattle.transport.specs.Valid.{GuardedAt, Valid}
 use Rattle.transport.specs.Promise.{asked_by, PromisedAt}
 use Rattle.bidi_write.specs.Refusal.{checked}
 use Rattle.sizes.specs.Size.{Takes}
 use Rattle.responses.specs.Respond.{Admits, receives, is_open, Prepares, Answers}
 use Rattle.transport.specs.declared.Answer.{Answer}
-use Rattle.transport.specs.declared.Answer.TheVariants as answer
-use Rattle.bidi_write.specs.declared.Check.{Check}
-use Rattle.bidi_write.specs.declared.Check.TheVariants as check
+use Rattle.std.specs.declared.result.Result.{Result}
+use Rattle.std.specs.Prelude.{Ok, Err}
 use Rattle.transport.specs.declared.Outcome.{Outcome}
 use Rattle.bidi_write.specs.declared.Refusal.{Refusal}
 use Rattle.bidi_write.specs.declared.Refusal.TheVariants as refusal
@@ -40,8 +39,8 @@ noted f v = R.set_worker (R.set_connector (f v.worker.connector) (R.set_mark fal
 
 pub record Rules (c : R.Call) (right : R.Phase → Bool) (m : M.Response) (f : R.Connector → R.Connector) (last : ℕ → ℕ → R.Session → R.Result) : Type 0 where
   pub some : (asked_by c).empty ≡ false
-  pub refuses : (v : R.Session) (x : Refusal) → checked (receives right v.phase m) ≡ check.Refuse x → step c v ≡ R.answers (R.refused (number_of x)) v
-  pub accepts : (v : R.Session) → checked (receives right v.phase m) ≡ check.Go
+  pub refuses : (v : R.Session) (x : Refusal) → checked (receives right v.phase m) ≡ Err x → step c v ≡ R.answers (R.refused (number_of x)) v
+  pub accepts : (v : R.Session) → checked (receives right v.phase m) ≡ Ok tt
       → step c v ≡ takes (M.size_of m.write_status) (M.is_finalized m.write_status) (noted f v) last
   pub no_replay : (p : R.Phase) → not (right p) ≡ false → R.is_replay p ≡ false
 
@@ -73,8 +72,8 @@ handshake_rules m = record { some = refl; refuses = λ v x e. refused v _ x _ e;
 -- ---- the promise
 
 module _ {c : R.Call} {right : R.Phase → Bool} {m : M.Response} {f : R.Connector → R.Connector} {last : ℕ → ℕ → R.Session → R.Result} (rules : Rules c right m f last)
-    (s : Session) (store : M.Bytes) (table : List ℕ) (way : Check) (admits : Admits s (length store) (length table) (receives right (phase_of s.phase) m) way) where
-  pub refuses_as : (x : Refusal) → way ≡ check.Refuse x → PromisedAt c s store table (record { session = s; answer = answer.Refused x }) table
+    (s : Session) (store : M.Bytes) (table : List ℕ) (way : Result (Unit {0}) Refusal) (admits : Admits s (length store) (length table) (receives right (phase_of s.phase) m) way) where
+  pub refuses_as : (x : Refusal) → way ≡ Err x → PromisedAt c s store table (record { session = s; answer = Err x }) table
   unfolding view
   refuses_as x e out =
       refusal c s store table out x
@@ -85,17 +84,17 @@ module _ {c : R.Call} {right : R.Phase → Bool} {m : M.Response} {f : R.Connect
       })
       (λ v. by_end v (R.is_ended (phase_of s.phase)) refl)
     where
-      is : (y : Refusal) → way ≡ check.Refuse y → answer.Refused x ≡ answer.Refused y
-      is y f = ap answer.Refused (same-refusal x y (sym e ∙ f))
+      is : (y : Refusal) → way ≡ Err y → ◌≡◌ {A = Result Answer Refusal} (Err x) (Err y)
+      is y f = ap Err (same-refusal x y (sym e ∙ f))
 
       by_end : Valid s store table → (b : Bool) → R.is_ended (phase_of s.phase) ≡ b → step c (view s store table) ≡ R.answers (R.refused (number_of x)) (view s store table)
       by_end v true f =
           ended-refused c (view s store table) rules.some f
-          ∙ ap (λ (y : Answer). R.answers (answer_of y []) (view s store table)) (sym (is refusal.Ended (admits.over f)))
+          ∙ ap (λ (y : Result Answer Refusal). R.answers (answer_of y []) (view s store table)) (sym (is refusal.Ended (admits.over f)))
       by_end v false f = rules.refuses (view s store table) x (sym (admits.tested f v.guarded) ∙ e)
 
-  module _ (go : way ≡ check.Go) where
-    passed_all : checked (receives right (phase_of s.phase) m) ≡ check.Go
+  module _ (go : way ≡ Ok tt) where
+    passed_all : checked (receives right (phase_of s.phase) m) ≡ Ok tt
     passed_all = sym (admits.tested (admits.goes go).0 (admits.goes go).1) ∙ go
 
     -- what the callees ask
@@ -107,7 +106,7 @@ module _ {c : R.Call} {right : R.Phase → Bool} {m : M.Response} {f : R.Connect
 
     module _ (t : Session) (p : Prepares f s t) (taken : Taken) (table' : List ℕ)
         (ts : Takes (M.size_of m.write_status) (M.is_finalized m.write_status) t store table taken table')
-        (r : Outcome) (an : Answers last taken.way taken.session r) where
+        (r : Outcome) (an : Answers last taken.end taken.settled taken.session r) where
       before : R.is_replay (phase_of s.phase) ≡ false
       before = rules.no_replay (phase_of s.phase) (passes _ _ _ passed_all).right_phase
 
@@ -123,7 +122,7 @@ module _ {c : R.Call} {right : R.Phase → Bool} {m : M.Response} {f : R.Connect
           rules.accepts (view s store table) passed_all
           ∙ ap (λ (x : R.Session). takes (M.size_of m.write_status) (M.is_finalized m.write_status) x last) (sym (p.view_is store table))
 
-      pub accepts_as : PromisedAt c s store table r table'
+      pub accepts_as : PromisedAt c s store table (left s (Ok r)) table'
       accepts_as out = record {
         first = first_goes c s store table rules.some (admits.goes go).0 (admits.goes go).1;
         refuses = λ x e. absurd (an.quiet.accepts x e);

@@ -6,9 +6,9 @@ ghost use Rattle.std.specs.Prelude.{◌≡◌};
 ghost use Rattle.transport.specs.View.{handed, released};
 ghost use Rattle.shown.specs.Shown.{Shown, Dials};
 
-use bidi_write::Offset;
+use bidi_write::{Offset, Refusal, Request};
 use state::AppendObjectSpec;
-use transport::{Answer, MaybeRequest, Phase, Session};
+use transport::{Answer, Phase, Session};
 
 #[derive(Clone, Copy)]
 pub struct View {
@@ -26,18 +26,13 @@ pub struct View {
 pub fn view_of(s: Session) -> View
     ensures { Shown s result }
 {
-    let phase = s.phase;
-    let w = s.worker;
-    let b = w.replay_buffer;
-    let q = w.pending_requests;
-    let persisted_size = w.persisted_size;
     View {
-        phase,
-        persisted_size,
-        stored: b.unpersisted_bytes,
+        phase: s.phase,
+        persisted_size: s.worker.persisted_size,
+        stored: s.worker.replay_buffer.unpersisted_bytes,
         held: s.held,
-        capacity: b.capacity,
-        waiters: q.count,
+        capacity: s.worker.replay_buffer.capacity,
+        waiters: s.worker.pending_requests.count,
     }
 }
 
@@ -49,35 +44,25 @@ pub fn spec_of(s: Session) -> AppendObjectSpec
 }
 
 // The request that an answer hands out.
-pub fn handed(answer: Answer) -> MaybeRequest
+pub fn handed(answer: Result<Answer, Refusal>) -> Option<Request>
     ensures { result ≡ handed answer }
 {
     match answer {
-        Answer::Refused(_) => MaybeRequest::Absent,
-        Answer::Took(_, r) => r,
-        Answer::Sends(r) => MaybeRequest::Present(r),
-        Answer::Waits(r, _) => MaybeRequest::Present(r),
-        Answer::Completes(c) => c.request,
-        Answer::Attempt(_) => MaybeRequest::Absent,
-        Answer::Accepted => MaybeRequest::Absent,
-        Answer::Done => MaybeRequest::Absent,
-        Answer::Ends(_) => MaybeRequest::Absent,
+        Ok(Answer::Took(_, r)) => r,
+        Ok(Answer::Sends(r)) => Some(r),
+        Ok(Answer::Waits(r, _)) => Some(r),
+        Ok(Answer::Completes(c)) => c.request,
+        _ => None,
     }
 }
 
 // The bytes that an answer says were released.
-pub fn released(answer: Answer) -> usize
+pub fn released(answer: Result<Answer, Refusal>) -> usize
     ensures { result ≡ released answer }
 {
     match answer {
-        Answer::Refused(_) => 0,
-        Answer::Took(_, _) => 0,
-        Answer::Sends(_) => 0,
-        Answer::Waits(_, _) => 0,
-        Answer::Completes(c) => c.released,
-        Answer::Attempt(_) => 0,
-        Answer::Accepted => 0,
-        Answer::Done => 0,
-        Answer::Ends(e) => e.released,
+        Ok(Answer::Completes(c)) => c.released,
+        Ok(Answer::Ends(e)) => e.released,
+        _ => 0,
     }
 }

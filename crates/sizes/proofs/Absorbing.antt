@@ -106,6 +106,6 @@ module _ (n : Offset) (finalised : Bool) (s : Session) (store : Bytes) (table : 
     cursor = no_cursor s.phase _ _ e;
   }
 
-  pub absorbs-size : Absorbs n.0 finalised s store table (record { session = after; settled = record { completed = k; released = acked.released } }) table'
+  pub absorbs-size : Absorbs n.0 finalised s store table after (record { completed = k; released = acked.released }) table'
   unfolding view worker_of
   absorbs-size = record { phase_is = refl; beyond = acks.keeps.beyond; completed_is = k-is; released_is = released_is; view_is = view_is; stays = stays }

@@ -7,11 +7,11 @@ ghost use Rattle.std.proofs.Math.Option.{some};
 ghost use Rattle.bidi_write.specs.View.{status_of};
 ghost use Rattle.rules.specs.Message as M;
 ghost use Rattle.sizes.specs.Size.{Absorbs, Takes, Goes, settled_nothing};
+ghost use Rattle.sizes.specs.declared.Settled.{Settled};
 ghost use Rattle.transport.specs.Valid.{GuardedAt};
 
-use bidi_write::{Cause, Offset, Size, WriteStatus};
+use bidi_write::{Cause, Offset, WriteStatus};
 use transport::Session;
-use transport::parts::renew;
 
 // What a message settled: waiters completed, and bytes released.
 #[derive(Clone, Copy)]
@@ -20,25 +20,12 @@ pub struct Settled {
     pub released: usize,
 }
 
-// How a session goes on from a response: to its last step, or to its end.
-#[derive(Clone, Copy)]
-pub enum Way {
-    On(Settled),
-    Ends(Cause, Settled),
-}
-
-// A session that took over what a response states.
+// A session that took over what a response states: what that settled, and why the session ends, if it does.
 #[derive(Clone, Copy)]
 pub struct Taken {
     pub session: Session,
-    pub way: Way,
-}
-
-// A session that absorbed a stated size, and what that settled.
-#[derive(Drop)]
-struct Absorbed {
-    session: Session,
-    settled: Settled,
+    pub settled: Settled,
+    pub end: Option<Cause>,
 }
 
 // What a status states is taken over: no size, and only the last step is left.
@@ -46,19 +33,19 @@ pub fn handle_response_success(
     s: Session,
     store: &[u8],
     table: &mut [u64],
-    status: WriteStatus,
+    status: Option<WriteStatus>,
 ) -> Taken
     requires { GuardedAt s (length store.now) (length table.old) }
     ensures { Takes (M.size_of (status_of status)) (M.is_finalized (status_of status)) s store.now table.old result table.new }
 {
     let finalized = bidi_write::is_finalized(status);
-    let size = bidi_write::persisted_size(status);
-    match size {
-        Size::Absent => Taken {
-            session: s,
-            way: Way::On(nothing()),
-        },
-        Size::Stated(n) => take_size(s, store, table, n, finalized),
+    if let Some(n) = bidi_write::persisted_size(status) {
+        return take_size(s, store, table, n, finalized);
+    }
+    Taken {
+        session: s,
+        settled: nothing(),
+        end: None,
     }
 }
 
@@ -67,40 +54,37 @@ fn take_size(s: Session, store: &[u8], table: &mut [u64], n: Offset, finalized: 
     requires { GuardedAt s (length store.now) (length table.old) }
     ensures { Takes (some n.0) finalized s store.now table.old result table.new }
 {
-    let w = s.worker;
-    let persisted = w.persisted_size;
-    if bidi_write::below(n, persisted) {
+    if bidi_write::below(n, s.worker.persisted_size) {
         return Taken {
             session: s,
-            way: Way::Ends(Cause::Regressed, nothing()),
+            settled: nothing(),
+            end: Some(Cause::Regressed),
         };
     }
-    let end = s.write_offset;
-    if bidi_write::below(end, n) {
+    if bidi_write::below(s.write_offset, n) {
         return Taken {
             session: s,
-            way: Way::Ends(Cause::Beyond, nothing()),
+            settled: nothing(),
+            end: Some(Cause::Beyond),
         };
     }
-    let a = absorb_size(s, store, table, n, finalized);
-    let t = a.session;
-    let way = way_on(t, finalized, a.settled);
-    Taken { session: t, way }
+    let (session, settled) = absorb_size(s, store, table, n, finalized);
+    Taken {
+        session,
+        settled,
+        end: end_after(session, finalized),
+    }
 }
 
 // "A finalised response then ends the session, unless finalise was sent and no waiter is left."
-fn way_on(s: Session, finalized: bool, settled: Settled) -> Way
-    ensures { Goes s finalized settled result }
+fn end_after(s: Session, finalized: bool) -> Option<Cause>
+    ensures { (k : Settled) → Goes s finalized k result }
 {
-    let w = s.worker;
-    let q = w.pending_requests;
-    let complete = worker::is_complete(w.finalized, q.count);
-    if finalized {
-        if !complete {
-            return Way::Ends(Cause::AlreadyFinalized, settled);
-        }
+    let complete = worker::is_complete(s.worker.finalized, s.worker.pending_requests.count);
+    if finalized && !complete {
+        return Some(Cause::AlreadyFinalized);
     }
-    Way::On(settled)
+    None
 }
 
 fn nothing() -> Settled
@@ -113,25 +97,27 @@ fn nothing() -> Settled
 }
 
 // P is the size n: "chunks ending at or below it go, the front one is trimmed"; "waiters are completed from the front while satisfied".
-fn absorb_size(s: Session, store: &[u8], table: &mut [u64], n: Offset, finalized: bool) -> Absorbed
+fn absorb_size(
+    s: Session,
+    store: &[u8],
+    table: &mut [u64],
+    n: Offset,
+    finalized: bool,
+) -> (Session, Settled)
     requires { GuardedAt s (length store.now) (length table.old) }
-    ensures { Absorbs n.0 finalized s store.now table.old result table.new }
+    ensures { Absorbs n.0 finalized s store.now table.old result.0 result.1 table.new }
 {
-    let w = s.worker;
-    let b = w.replay_buffer;
-    let q = w.pending_requests;
-    let at = s.write_offset;
-    let completed = q.satisfied(n, finalized);
-    let left = q.complete(completed);
+    let b = s.worker.replay_buffer;
     let size = replay_buffer::ring_size(b.capacity, s.limit);
-    let acked = replay_buffer::ack(b, store, size, table, s.slots, at, n);
-    let rest = acked.buffer;
-    let p = s.phase;
-    let sent = s.sent;
-    let session = renew(s, w.absorb(rest, left, n), p, sent);
+    let acked = replay_buffer::ack(b, store, size, table, s.slots, s.write_offset, n);
+    let waiting = s.worker.pending_requests;
+    let completed = waiting.satisfied(n, finalized);
+    let worker = s
+        .worker
+        .absorb(acked.buffer, waiting.complete(completed), n);
     let settled = Settled {
         completed,
         released: acked.released,
     };
-    Absorbed { session, settled }
+    (Session { worker, ..s }, settled)
 }

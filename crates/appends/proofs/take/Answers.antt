@@ -16,19 +16,18 @@ pub extend-requires-clause-within : goal.extend-requires-clause-within
 extend-requires-clause-within c =
     rw (c.ring_size-size.ensures c.requires.guarded_at.capacity_top c.requires.guarded_at.limit_top) (take_within c.args.s _ _ c.requires.guarded_at c.args.«data».now (length c.args.out.now) c.args.n c.args.cuts c.requires.taking)
 
-pub cut-c-requires : goal.cut-c-requires
-cut-c-requires c =
+pub cut-requires : goal.cut-requires
+cut-requires c =
     take-cuts c.args.s _ _ (rw c.extend.auto.store c.requires.guarded_at) c.args.«data».now (length c.args.out.now) c.args.n (taking c.args.s c.args.«data».now (length c.args.out.now) c.args.n c.args.cuts true c.if-cuts.true c.requires.taking)
 
 pub returns-then-cuts : goal.returns-then-cuts
 returns-then-cuts c =
     append-cuts c.args.s c.args.store.now c.args.table.now c.args.out.now c.requires.guarded_at c.args.«data».now c.args.n c.requires.taking.taken c.extend.new.store
     (rw (c.ring_size-size.ensures c.requires.guarded_at.capacity_top c.requires.guarded_at.limit_top) at c.extend.ensures) c.extend.auto.store
-    (taking c.args.s c.args.«data».now (length c.args.out.now) c.args.n c.args.cuts true c.if-cuts.true c.requires.taking) c.cut-c.result c.cut-c.new.table c.cut-c.new.out c.cut-c.ensures
+    (taking c.args.s c.args.«data».now (length c.args.out.now) c.args.n c.args.cuts true c.if-cuts.true c.requires.taking) c.cut.result c.cut.new.table c.cut.new.out c.cut.ensures
 
 pub returns : goal.returns
 returns c =
-    rw c.hold-session.ensures
-    (append-holds c.args.s c.args.store.now c.args.table.now c.args.out.now c.requires.guarded_at c.args.«data».now c.args.n c.requires.taking.taken c.extend.new.store
+    append-holds c.args.s c.args.store.now c.args.table.now c.args.out.now c.requires.guarded_at c.args.«data».now c.args.n c.requires.taking.taken c.extend.new.store
     (rw (c.ring_size-size.ensures c.requires.guarded_at.capacity_top c.requires.guarded_at.limit_top) at c.extend.ensures) c.extend.auto.store
-    (taking c.args.s c.args.«data».now (length c.args.out.now) c.args.n c.args.cuts false c.if-cuts.false c.requires.taking))
+    (taking c.args.s c.args.«data».now (length c.args.out.now) c.args.n c.args.cuts false c.if-cuts.false c.requires.taking)

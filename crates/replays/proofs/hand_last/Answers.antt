@@ -4,13 +4,13 @@ use Rattle.replays.proofs.hand_last.Goals as goal
 
 pub returns-then-needs_watermark_flush : goal.returns-then-needs_watermark_flush
 returns-then-needs_watermark_flush c =
-    rw (c.renew-t.ensures, c.set_mark-after.ensures.value)
+    rw (c.renew.ensures, c.set_mark.ensures.value)
     (hands-flush c.args.s c.args.at (sym c.needs_watermark_flush.ensures ∙ c.if-needs_watermark_flush.true)
-    c.flush_request-flush.result c.flush_request-flush.ensures
+    c.flush_request.result c.flush_request.ensures
     c.advance.result c.advance.ensures)
 
 pub returns : goal.returns
 returns c =
-    rw c.set_phase-t.ensures
+    rw c.set_phase.ensures
     (hands-done c.args.s c.args.at
     (sym c.needs_watermark_flush.ensures ∙ c.if-needs_watermark_flush.false))

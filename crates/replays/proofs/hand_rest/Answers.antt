@@ -3,9 +3,9 @@ use Rattle.replays.proofs.hand_rest.Goals as goal
 
 pub returns-then-i-waiting : goal.returns-then-i-waiting
 returns-then-i-waiting c =
-    rw c.set_phase-t.ensures
+    rw c.set_phase.ensures
     (hands_waiter_lem c.args.s c.args.at c.nth.result c.if-i-waiting.true c.nth.ensures
-    c.request-request.result c.request-request.ensures
+    c.request.result c.request.ensures
     c.advance.result c.advance.ensures)
 
 pub returns : goal.returns

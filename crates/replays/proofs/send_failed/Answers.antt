@@ -1,17 +1,21 @@
-use mathlib.Core.Path.{sym, ◌∙◌}
+use mathlib.Core.Path.{◌≡◌, sym, ◌∙◌}
+use native.Mathlib.Omega.{arith}
+use Rattle.std.specs.Prelude.{Err}
 use Rattle.replays.proofs.Unsending.{unsent-refuses, unsent_accepts}
 use Rattle.replays.proofs.send_failed.Goals as goal
 
-pub returns-in-Refuse : goal.returns-in-Refuse
-returns-in-Refuse c =
+pub returns-in_err-send_failed : goal.returns-in_err-send_failed
+returns-in_err-send_failed c =
     λ store table out.
-    unsent-refuses c.args.s store table out c.phase_number-phase.result c.phase_number-phase.ensures
-    c.is_nothing-nothing.result c.is_nothing-nothing.ensures _ (sym c.send_failed-way.ensures ∙ c.in-Refuse.is)
+    let refused : c.from_residual.result ≡ Err c.in_err-send_failed.field-0.0 = grind arith in
+    rw refused
+    (unsent-refuses c.args.s store table out c.phase_number.result c.phase_number.ensures
+    c.is_nothing.result c.is_nothing.ensures _ (sym c.send_failed.ensures ∙ c.in_err-send_failed.was))
 
-pub returns-in-Go : goal.returns-in-Go
-returns-in-Go c =
+pub returns : goal.returns
+returns c =
     λ store table out.
-    rw (c.renew-t.ensures, c.stop_replay-next.ensures, c.set_mark-after.ensures.value)
-    (unsent_accepts c.args.s store table out c.phase_number-phase.result c.phase_number-phase.ensures
-    c.is_nothing-nothing.result c.is_nothing-nothing.ensures c.mark_after-mark.result
-    (sym c.send_failed-way.ensures ∙ c.in-Go.is) c.mark_after-mark.ensures)
+    rw (c.renew.ensures, c.stop_replay.ensures, c.set_mark.ensures.value)
+    (unsent_accepts c.args.s store table out c.phase_number.result c.phase_number.ensures
+    c.is_nothing.result c.is_nothing.ensures c.mark_after-mark.result
+    (sym c.send_failed.ensures ∙ c.in_ok-send_failed.was) c.mark_after-mark.ensures)

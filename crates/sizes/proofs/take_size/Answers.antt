@@ -15,4 +15,5 @@ returns-then-below-2 c =
 pub returns : goal.returns
 returns c =
     takes-absorbed c.args.finalized c.args.s c.args.store.now c.args.table.now c.args.n.0 (sym c.below.ensures ∙ c.if-below.false)
-    (sym c.below-2.ensures ∙ c.if-below-2.false) c.absorb_size-a.result c.absorb_size-a.new.table c.absorb_size-a.ensures c.way_on-way.result c.way_on-way.ensures
+    (sym c.below-2.ensures ∙ c.if-below-2.false) c.absorb_size.result.0 c.absorb_size.result.1 c.absorb_size.new.table c.absorb_size.ensures
+    c.end_after.result (c.end_after.ensures c.absorb_size.result.1)
