@@ -27,20 +27,20 @@ use Rattle.plan_rules.proofs.Counting.{plan_is}
 use Rattle.plan_rules.proofs.Drives.{driven_left}
 use Rattle.plan_rules.proofs.Planned.{program_shows}
 use Rattle.plan_rules.proofs.Enough.{never_refused}
+use Rattle.bidi_write.specs.declared.Refusal.{Refusal}
 use Rattle.bidi_write.specs.View.{given}
-use Rattle.transport.specs.View.{view, answer_of}
+use Rattle.transport.specs.View.{Left, view, answer_of}
 use Rattle.transport.specs.Valid.{Valid}
 use Rattle.transport.specs.Promise.{Promise, Promised, PromisedAt}
 use Rattle.transport.specs.Claim as core
 use Rattle.transport.specs.Claim.{Memory, view_of, ValidAt, Does, Promises}
 use Rattle.transport.specs.declared.Session.{Session}
-use Rattle.transport.specs.declared.Outcome.{Outcome}
 use Rattle.transport.proofs.Claim as promises
 use Rattle.transport.proofs.Claim.{bound_of}
 use Rattle.transport.proofs.Numbers.{held_length, stored_is, chunks_are}
 use Rattle.transport.proofs.Views.{released_is}
 use Rattle.openings.specs.Opening.{opening_of, released_at}
-use Rattle.openings.specs.declared.OpenAnswer.{OpenAnswer}
+use Rattle.std.specs.declared.result.Result.{Result}
 use Rattle.openings.proofs.Openings.{accepted_is}
 use Rattle.claims.specs.Claim.{Ensures, Begins, Always, AlwaysCalled, StoredBound}
 use Rattle.claims.specs.Sendable.{AlwaysSendable}
@@ -51,7 +51,7 @@ use Rattle.claims.specs.Plan.{AlwaysPlanned}
 use Rattle.claims.proofs.Sendable.{handed_out_reads}
 
 -- a promise at memory that is the same
-module _ (c : R.Call) (m : Memory) (r : Outcome) where
+module _ (c : R.Call) (m : Memory) (r : Left) where
   abbrev At : Bytes → Bytes → List ℕ → Bytes → Type 0
   At out store table out' = Promise c m.session m.store m.table out r store table out'
 
@@ -71,7 +71,7 @@ module _ (c : R.Call) (m : Memory) (r : Outcome) where
   at_some {out} u p = at_store u.0 (at_out u.1 (p out))
 
 -- what each `ensures` says is the promise that the claims about the core ask for
-promised : (c : R.Call) (m : Memory) (out : Bytes) (r : Outcome) (store : Bytes) (table : List ℕ) (out' : Bytes)
+promised : (c : R.Call) (m : Memory) (out : Bytes) (r : Left) (store : Bytes) (table : List ℕ) (out' : Bytes)
     → Ensures c m out r store table out' → Promise c m.session m.store m.table out r store table out'
 promised (R.append d n) m out r store table out' e = e.0
 promised (R.flush n) m out r store table out' e = at_store (R.flush n) m r e.1.1 e.0
@@ -160,7 +160,7 @@ unfolding begin opening_of
 host_opening-released o m b =
     let made : O.Opening = opening_of b.opening b.beside (length b.store) (length b.table) in
     let number : b.opened.released ≡ O.open_released o
-    = b.ensured.released_is ∙ ap (λ (a : OpenAnswer). released_at a made) b.accepted ∙ ap O.open_released b.given in
+    = b.ensured.released_is ∙ ap (λ (a : Result (Unit {0}) Refusal). released_at a made) b.accepted ∙ ap O.open_released b.given in
     let stored : R.stored (view_of m) ≡ stored_in m.session = stored_is m.session m.store m.table (begun o m b).0 in
     let payload : O.payload_length (given b.opening.has_payload b.beside.payload) ≡ O.payload_length o.payload
     = ap (λ (x : O.Opening). O.payload_length x.payload) b.given in

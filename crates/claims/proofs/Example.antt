@@ -26,34 +26,29 @@ use Rattle.rules.proofs.Evidence.Computed.{computed}
 use Rattle.rules.proofs.Tests.{clash}
 use Rattle.ring.specs.Ring.{rot, part}
 use Rattle.bidi_write.specs.View.{request_of}
-use Rattle.bidi_write.specs.declared.Checksum.TheVariants as checksum
-use Rattle.bidi_write.specs.declared.Data.TheVariants as payload
+use Rattle.std.specs.Prelude.{Some, None}
+use Rattle.std.specs.Prelude.{Ok}
 use Rattle.bidi_write.specs.declared.Offset.{Offset}
 use Rattle.bidi_write.specs.declared.WriteStatus.TheVariants as status
 use Rattle.state.specs.View.{spec_of}
 use Rattle.state.specs.declared.AppendObjectSpec.{AppendObjectSpec}
-use Rattle.state.specs.declared.Condition.TheVariants as condition
 use Rattle.connector.specs.View.{connector_of}
 use Rattle.chunk_words.specs.Word.{packed}
 use Rattle.replay_buffer.specs.View.{lent, queue_of, Sound}
 use Rattle.replay_buffer.specs.declared.ReplayBuffer.{ReplayBuffer}
 use Rattle.worker.specs.View.{waiters_of, no_waiters, worker_of}
-use Rattle.transport.specs.View.{phase_of, view, answer_of}
+use Rattle.transport.specs.View.{Left, phase_of, view, answer_of}
 use Rattle.transport.specs.Valid.{Valid}
 use Rattle.transport.specs.Promise.{asked_by, First}
 use Rattle.transport.specs.Claim.{Memory, view_of, ValidAt, Does}
 use Rattle.transport.specs.declared.Answer.{Answer}
 use Rattle.transport.specs.declared.Answer.TheVariants as answer
-use Rattle.transport.specs.declared.MaybeRequest.TheVariants as maybe
-use Rattle.transport.specs.declared.Outcome.{Outcome}
 use Rattle.transport.specs.declared.Phase.TheVariants as phase
 use Rattle.transport.specs.declared.Sent.{Sent}
 use Rattle.transport.specs.declared.Sent.TheVariants as sent
 use Rattle.transport.specs.declared.Session.{Session}
 use Rattle.openings.specs.Opening.{Beside, beside, opening_of, opened_as}
-use Rattle.openings.specs.declared.Capacity.TheVariants as capacity
 use Rattle.openings.specs.declared.Opening.{Opening}
-use Rattle.openings.specs.declared.OpenAnswer.TheVariants as open-answer
 use Rattle.session.specs.Lent.{outcome}
 use Rattle.claims.specs.Claim.{Ensures, Begins}
 use Rattle.claims.proofs.Claim.{host_demand3, host_planned}
@@ -70,15 +65,15 @@ bucket = bucket_prefix ++ (98 ∷ [])
 abbrev opening : Opening
 opening = record {
   limit = 1;
-  capacity = capacity.Asked 3;
+  capacity = Some 3;
   append = false;
   generation = record { 0 = pos 0 };
   has_write_handle = false;
   has_routing_token = false;
-  if_metageneration_match = condition.Absent;
-  if_metageneration_not_match = condition.Absent;
-  response = record { write_status = status.PersistedSize zero; has_write_handle = false };
-  checksum = checksum.Unknown;
+  if_metageneration_match = None;
+  if_metageneration_not_match = None;
+  response = record { write_status = Some (status.PersistedSize zero); has_write_handle = false };
+  checksum = None;
   has_payload = false;
   last_persisted_size = zero;
 }
@@ -96,10 +91,10 @@ spec = record {
   bucket = record { bytes = bucket ++ replicate 236 0; length = 20 };
   object = record { bytes = 111 ∷ replicate 1023 0; length = 1 };
   generation = record { 0 = pos 0 };
-  write_handle = record { given = false; bytes = replicate 1024 0; length = 0 };
-  routing_token = record { given = false; bytes = replicate 512 0; length = 0 };
-  if_metageneration_match = condition.Absent;
-  if_metageneration_not_match = condition.Absent;
+  write_handle = None;
+  routing_token = None;
+  if_metageneration_match = None;
+  if_metageneration_not_match = None;
 }
 
 -- a record of this session: what was sent last, the write offset and its sum, the buffer, P, the mark
@@ -111,7 +106,7 @@ record_of n at sum b p mark = record {
   sent = n;
   made = 0;
   write_offset = at;
-  running_crc32c = checksum.Known sum;
+  running_crc32c = Some sum;
   held = 0;
   worker = record {
     connector = record { spec = spec; attempt_count = 0; redirects_followed = 0; last_persisted_size = zero };
@@ -194,7 +189,7 @@ valid n at s b p mark store table h e f sound =
       slots_in = omega arith;
       sound = sound;
       waiting_is = refl;
-      spec_fits = record { bucket = omega arith; object = omega arith; handle = omega arith; token = omega arith };
+      spec_fits = record { bucket = omega arith; object = omega arith; handle = tt; token = tt };
       followed = λ _. omega arith;
       cursor = tt;
     }
@@ -222,7 +217,7 @@ valid_acknowledged = valid _ 1 _ _ _ _ _ _
 met_begins : Begins given opened
 unfolding computed opening_of view worker_of connector_of spec_of queue_of rot part waiters_of no_waiters
 met_begins =
-    opens_all opening names (0 ∷ 0 ∷ 0 ∷ []) (0 ∷ []) (opened_as opened.session open-answer.Opened 0) opened.store opened.table
+    opens_all opening names (0 ∷ 0 ∷ 0 ∷ []) (0 ∷ []) (opened_as opened.session (Ok tt) 0) opened.store opened.table
     (record {
       writer_is = refl;
       released_is = refl;
@@ -237,7 +232,7 @@ met_begins =
 -- ---- the calls
 
 -- a call of a live session whose numbers fit, and that is no append of nothing
-first_free : (c : R.Call) (m : Memory) (out : Bytes) (r : Outcome) (store' : Bytes) (table' : List ℕ) (out' : Bytes) → (asked_by c).empty ≡ false
+first_free : (c : R.Call) (m : Memory) (out : Bytes) (r : Left) (store' : Bytes) (table' : List ℕ) (out' : Bytes) → (asked_by c).empty ≡ false
     → R.is_ended (phase_of m.session.phase) ≡ false → ValidAt m → First c m.session m.store m.table out r store' table' out'
 first_free c m out r store' table' out' e f v = record {
   empty = λ g. clash g e;
@@ -249,19 +244,19 @@ abbrev append : R.Call
 append = R.append (97 ∷ []) 1
 
 abbrev cut : Answer
-cut = answer.Took 1 (maybe.Present (record {
+cut = answer.Took 1 (Some (record {
   write_offset = zero;
-  «data» = payload.Checksummed (record { length = 1; crc32c = sum });
-  object_checksums = checksum.Unknown;
+  «data» = Some (record { length = 1; crc32c = sum });
+  object_checksums = None;
   state_lookup = true;
   flush = true;
   finish_write = false;
 }))
 
-met_append : Does Ensures append opened (answer_of cut (97 ∷ [])) stored
+met_append : Does Ensures append opened (answer_of (Ok cut) (97 ∷ [])) stored
 unfolding computed request_of view worker_of connector_of spec_of queue_of rot part waiters_of no_waiters
 met_append =
-    ensures_all append opened (0 ∷ []) (outcome stored.session cut) stored.store stored.table (97 ∷ []) (
+    ensures_all append opened (0 ∷ []) (outcome stored.session (Ok cut)) stored.store stored.table (97 ∷ []) (
       record {
         first = first_free append opened (0 ∷ []) _ _ _ _ refl refl valid_opened;
         refuses = λ x e. let z : ◌≡◌ {A = ℕ} 0 1 = cc in absurd (omega arith);
@@ -281,12 +276,12 @@ abbrev report : R.Call
 report = R.response (record { write_status = some (M.persisted_size (pos 1)); write_handle = none })
 
 abbrev taken : Answer
-taken = answer.Completes (record { waiters = 0; released = 1; request = maybe.Absent })
+taken = answer.Completes (record { waiters = 0; released = 1; request = None })
 
-met_response : Does Ensures report stored (answer_of taken []) acknowledged
+met_response : Does Ensures report stored (answer_of (Ok taken) []) acknowledged
 unfolding computed view worker_of connector_of spec_of queue_of rot part waiters_of no_waiters
 met_response =
-    ensures_all report stored [] (outcome acknowledged.session taken) acknowledged.store acknowledged.table [] (
+    ensures_all report stored [] (outcome acknowledged.session (Ok taken)) acknowledged.store acknowledged.table [] (
       (λ out. record {
         first = first_free report stored out _ _ _ _ refl refl valid_stored;
         refuses = λ x e. let z : ◌≡◌ {A = ℕ} 0 1 = cc in absurd (omega arith);
@@ -319,11 +314,11 @@ idle e = record { event = e; answer = R.ok; left = stored }
 
 abbrev turns : Turns
 turns =
-    record { event = host_calls append true; answer = answer_of cut (97 ∷ []); left = stored }
+    record { event = host_calls append true; answer = answer_of (Ok cut) (97 ∷ []); left = stored }
     ∷ idle (server_takes 0 0)
     ∷ idle (server_persists 1)
     ∷ idle (server_says (some alone) none)
-    ∷ record { event = host_hands true false; answer = answer_of taken []; left = acknowledged }
+    ∷ record { event = host_hands true false; answer = answer_of (Ok taken) []; left = acknowledged }
     ∷ []
 
 abbrev world : World
@@ -365,7 +360,7 @@ met_holds = host_demand3 given opened met_begins empty met_server turns met
 -- ---- its append drives the list of one length, and the record shows the plan
 
 abbrev driving : List (CallTurn view_of (Does Ensures))
-driving = record { call = append; answer = answer_of cut (97 ∷ []); left = stored } ∷ []
+driving = record { call = append; answer = answer_of (Ok cut) (97 ∷ []); left = stored } ∷ []
 
 pub met_planned : planned 1 (1 ∷ []) ≡ some (record { chunks = 1; stored = 1; held = 0; appends = 1; flushes = 0 })
 unfolding opening_of view

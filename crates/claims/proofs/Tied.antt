@@ -19,12 +19,11 @@ use Rattle.rules.specs.Session as R
 use Rattle.bidi_write.specs.View.{response_of, break_of}
 use Rattle.openings.specs.Opening.{Beside, beside, opening_of, Opens}
 use Rattle.openings.specs.declared.Opening.{Opening}
-use Rattle.openings.specs.declared.OpenAnswer.TheVariants as answer
+use Rattle.std.specs.Prelude.{Ok}
 use Rattle.openings.specs.declared.Opened.{Opened}
-use Rattle.transport.specs.View.{answer_of}
+use Rattle.transport.specs.View.{Left, left, answer_of}
 use Rattle.transport.specs.Claim.{Memory, Promises, Does}
 use Rattle.transport.specs.declared.Session.{Session}
-use Rattle.transport.specs.declared.Outcome.{Outcome}
 use Rattle.session.specs.Lent.{outcome}
 use Rattle.claims.specs.Claim.{Ensured, Unlent, Ensures, OpenEnsured, Begins}
 use Rattle.appends.specs.contracts.append as core-append
@@ -56,26 +55,26 @@ abbrev memory : Session → Bytes → List ℕ → Memory
 memory s store table = record { session = s; store = store; table = table }
 
 -- of a call of the core that is lent no out buffer, or no memory at all: whatever these hold
-abbrev AnyOut : R.Call → Memory → Outcome → List ℕ → Type 0
+abbrev AnyOut : R.Call → Memory → Left → List ℕ → Type 0
 AnyOut c m r table = (out : Bytes) → Promises c m out r m.store table out
 
-abbrev Any : R.Call → Session → Outcome → Type 0
+abbrev Any : R.Call → Session → Left → Type 0
 Any c s r = (store : Bytes) (table : List ℕ) (out : Bytes) → Promises c (memory s store table) out r store table out
 
 -- ---- what is tied here is all that is asked
 
 -- of a call
-pub ensures_all : (c : R.Call) (m : Memory) (out : Bytes) (r : Outcome) (store : Bytes) (table : List ℕ) (out' : Bytes)
+pub ensures_all : (c : R.Call) (m : Memory) (out : Bytes) (r : Left) (store : Bytes) (table : List ℕ) (out' : Bytes)
     → Ensured c m out r store table out' × Unlent c m out store table out' → Does Ensures c m (answer_of r.answer out') (memory r.session store table)
 ensures_all c m out r store table out' e = record { out = out; out' = out'; answer = r.answer; answer_is = refl; says = e }
 
-promises_all : (c : R.Call) (m : Memory) (out : Bytes) (r : Outcome) (store : Bytes) (table : List ℕ) (out' : Bytes)
+promises_all : (c : R.Call) (m : Memory) (out : Bytes) (r : Left) (store : Bytes) (table : List ℕ) (out' : Bytes)
     → Promises c m out r store table out' → Does Promises c m (answer_of r.answer out') (memory r.session store table)
 promises_all c m out r store table out' p = record { out = out; out' = out'; answer = r.answer; answer_is = refl; says = p }
 
 -- of an opening
 pub opens_all : (o : Opening) (b : Beside) (store : Bytes) (table : List ℕ) (r : Opened) (store' : Bytes) (table' : List ℕ)
-    → OpenEnsured o b store table r store' table' → r.answer ≡ answer.Opened
+    → OpenEnsured o b store table r store' table' → r.answer ≡ Ok tt
     → Begins (opening_of o b (length store) (length table)) (memory r.session store' table')
 opens_all o b store table r store' table' e a =
     record { opening = o; beside = b; store = store; table = table; opened = r; given = refl; left = refl; ensured = e; accepted = a }
@@ -151,45 +150,45 @@ module _ {M : Type 1} {𝓤 : Ura M} (𝓛 : Logic 𝓤) (mem : Machine → SPro
   open_core κs a = refl
 
   append_core : (κs : Lfts 4) (a : Args core-append.signature κs)
-      → (core-append.clauses 𝓛 mem run κs a).ensures ≡ (λ _ r end. ⌜ Promises (R.append a.1.1.1.1.0.now (length a.1.1.1.0.now)) (memory a.0 a.1.0.now a.1.1.0.now) a.1.1.1.0.now r end.1.0.now end.1.1.0.now end.1.1.1.0.now ⌝)
+      → (core-append.clauses 𝓛 mem run κs a).ensures ≡ (λ _ r end. ⌜ Promises (R.append a.1.1.1.1.0.now (length a.1.1.1.0.now)) (memory a.0 a.1.0.now a.1.1.0.now) a.1.1.1.0.now (left a.0 r) end.1.0.now end.1.1.0.now end.1.1.1.0.now ⌝)
   append_core κs a = refl
 
   flush_core : (κs : Lfts 3) (a : Args core-flush.signature κs)
-      → (core-flush.clauses 𝓛 mem run κs a).ensures ≡ (λ _ r end. ⌜ Promises (R.flush (length a.1.1.1.0.now)) (memory a.0 a.1.0.now a.1.1.0.now) a.1.1.1.0.now r a.1.0.now end.1.1.0.now end.1.1.1.0.now ⌝)
+      → (core-flush.clauses 𝓛 mem run κs a).ensures ≡ (λ _ r end. ⌜ Promises (R.flush (length a.1.1.1.0.now)) (memory a.0 a.1.0.now a.1.1.0.now) a.1.1.1.0.now (left a.0 r) a.1.0.now end.1.1.0.now end.1.1.1.0.now ⌝)
   flush_core κs a = refl
 
   finalise_core : (κs : Lfts 3) (a : Args core-finalise.signature κs)
-      → (core-finalise.clauses 𝓛 mem run κs a).ensures ≡ (λ _ r end. ⌜ Promises (R.finalise (length a.1.1.1.0.now)) (memory a.0 a.1.0.now a.1.1.0.now) a.1.1.1.0.now r a.1.0.now end.1.1.0.now end.1.1.1.0.now ⌝)
+      → (core-finalise.clauses 𝓛 mem run κs a).ensures ≡ (λ _ r end. ⌜ Promises (R.finalise (length a.1.1.1.0.now)) (memory a.0 a.1.0.now a.1.1.0.now) a.1.1.1.0.now (left a.0 r) a.1.0.now end.1.1.0.now end.1.1.1.0.now ⌝)
   finalise_core κs a = refl
 
   close_core : (κs : Lfts 0) (a : Args core-close.signature κs)
-      → (core-close.clauses 𝓛 mem run κs a).ensures ≡ (λ _ r end. ⌜ Any R.close a.0 r ⌝)
+      → (core-close.clauses 𝓛 mem run κs a).ensures ≡ (λ _ r end. ⌜ Any R.close a.0 (left a.0 r) ⌝)
   close_core κs a = refl
 
   response_core : (κs : Lfts 3) (a : Args core-response.signature κs)
-      → (core-response.clauses 𝓛 mem run κs a).ensures ≡ (λ _ r end. ⌜ AnyOut (R.response (response_of a.1.1.1.0 a.1.1.1.1.0.now)) (memory a.0 a.1.0.now a.1.1.0.now) r end.1.1.0.now ⌝)
+      → (core-response.clauses 𝓛 mem run κs a).ensures ≡ (λ _ r end. ⌜ AnyOut (R.response (response_of a.1.1.1.0 a.1.1.1.1.0.now)) (memory a.0 a.1.0.now a.1.1.0.now) (left a.0 r) end.1.1.0.now ⌝)
   response_core κs a = refl
 
   handshake_core : (κs : Lfts 3) (a : Args core-handshake.signature κs)
-      → (core-handshake.clauses 𝓛 mem run κs a).ensures ≡ (λ _ r end. ⌜ AnyOut (R.handshake (response_of a.1.1.1.0 a.1.1.1.1.0.now)) (memory a.0 a.1.0.now a.1.1.0.now) r end.1.1.0.now ⌝)
+      → (core-handshake.clauses 𝓛 mem run κs a).ensures ≡ (λ _ r end. ⌜ AnyOut (R.handshake (response_of a.1.1.1.0 a.1.1.1.1.0.now)) (memory a.0 a.1.0.now a.1.1.0.now) (left a.0 r) end.1.1.0.now ⌝)
   handshake_core κs a = refl
 
   stream_break_core : (κs : Lfts 1) (a : Args core-stream-break.signature κs)
-      → (core-stream-break.clauses 𝓛 mem run κs a).ensures ≡ (λ _ r end. ⌜ Any (R.break (break_of a.1.0 a.1.1.0.now)) a.0 r ⌝)
+      → (core-stream-break.clauses 𝓛 mem run κs a).ensures ≡ (λ _ r end. ⌜ Any (R.break (break_of a.1.0 a.1.1.0.now)) a.0 (left a.0 r) ⌝)
   stream_break_core κs a = refl
 
   judge_core : (κs : Lfts 0) (a : Args core-judge.signature κs)
-      → (core-judge.clauses 𝓛 mem run κs a).ensures ≡ (λ _ r end. ⌜ Any (R.judge a.1.0) a.0 r ⌝)
+      → (core-judge.clauses 𝓛 mem run κs a).ensures ≡ (λ _ r end. ⌜ Any (R.judge a.1.0) a.0 (left a.0 r) ⌝)
   judge_core κs a = refl
 
   failed_attempt_core : (κs : Lfts 1) (a : Args core-failed-attempt.signature κs)
-      → (core-failed-attempt.clauses 𝓛 mem run κs a).ensures ≡ (λ _ r end. ⌜ Any (R.failed_attempt (break_of a.1.0 a.1.1.0.now) a.1.1.1.0) a.0 r ⌝)
+      → (core-failed-attempt.clauses 𝓛 mem run κs a).ensures ≡ (λ _ r end. ⌜ Any (R.failed_attempt (break_of a.1.0 a.1.1.0.now) a.1.1.1.0) a.0 (left a.0 r) ⌝)
   failed_attempt_core κs a = refl
 
   next-request_core : (κs : Lfts 3) (a : Args core-next-request.signature κs)
-      → (core-next-request.clauses 𝓛 mem run κs a).ensures ≡ (λ _ r end. ⌜ Promises (R.next_request (length a.1.1.1.0.now)) (memory a.0 a.1.0.now a.1.1.0.now) a.1.1.1.0.now r a.1.0.now a.1.1.0.now end.1.1.1.0.now ⌝)
+      → (core-next-request.clauses 𝓛 mem run κs a).ensures ≡ (λ _ r end. ⌜ Promises (R.next_request (length a.1.1.1.0.now)) (memory a.0 a.1.0.now a.1.1.0.now) a.1.1.1.0.now (left a.0 r) a.1.0.now a.1.1.0.now end.1.1.1.0.now ⌝)
   next-request_core κs a = refl
 
   send_failed_core : (κs : Lfts 0) (a : Args core-send-failed.signature κs)
-      → (core-send-failed.clauses 𝓛 mem run κs a).ensures ≡ (λ _ r end. ⌜ Any R.send_failed a.0 r ⌝)
+      → (core-send-failed.clauses 𝓛 mem run κs a).ensures ≡ (λ _ r end. ⌜ Any R.send_failed a.0 (left a.0 r) ⌝)
   send_failed_core κs a = refl

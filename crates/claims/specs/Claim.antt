@@ -7,17 +7,17 @@ use Rattle.rules.specs.Server.{Stored}
 use Rattle.rules.specs.World.{World}
 use Rattle.rules.specs.Program as rule
 use Rattle.rules.specs.Calls.{Run, AlwaysDidCall}
+use Rattle.transport.specs.View.{Left}
 use Rattle.transport.specs.Promise.{Promise, Promised, PromisedAt}
 use Rattle.transport.specs.Claim as core
 use Rattle.transport.specs.Claim.{Memory, view_of, Does}
-use Rattle.transport.specs.declared.Outcome.{Outcome}
 use Rattle.openings.specs.Opening.{Beside, opening_of, Opens}
 use Rattle.openings.specs.declared.Opening.{Opening}
-use Rattle.openings.specs.declared.OpenAnswer.TheVariants as answer
+use Rattle.std.specs.Prelude.{Ok}
 use Rattle.openings.specs.declared.Opened.{Opened}
 
 -- the text of each call's `ensures`, from the record and memory that it was lent to what it answered and left: proofs/Tied has them equal
-abbrev pub Ensured : R.Call → Memory → Bytes → Outcome → Bytes → List ℕ → Bytes → Type 0
+abbrev pub Ensured : R.Call → Memory → Bytes → Left → Bytes → List ℕ → Bytes → Type 0
 Ensured (R.append d n) m out r store table out' = Promise (R.append d n) m.session m.store m.table out r store table out'
 Ensured (R.flush n) m out r store table out' = Promise (R.flush n) m.session m.store m.table out r m.store table out'
 Ensured (R.finalise n) m out r store table out' = Promise (R.finalise n) m.session m.store m.table out r m.store table out'
@@ -45,7 +45,7 @@ Unlent (R.judge v) m out store table out' = (store ≡ m.store) × (table ≡ m.
 Unlent (R.failed_attempt b v) m out store table out' = (store ≡ m.store) × (table ≡ m.table) × (out' ≡ out)
 
 -- what is known of a call
-abbrev pub Ensures : R.Call → Memory → Bytes → Outcome → Bytes → List ℕ → Bytes → Type 0
+abbrev pub Ensures : R.Call → Memory → Bytes → Left → Bytes → List ℕ → Bytes → Type 0
 Ensures c m out r store table out' = Ensured c m out r store table out' × Unlent c m out store table out'
 
 -- the opening's
@@ -62,7 +62,7 @@ pub record Begins (o : O.Opening) (m : Memory) : Type 0 where
   pub given : opening_of opening beside (length store) (length table) ≡ o
   pub left : opened.session ≡ m.session
   pub ensured : OpenEnsured opening beside store table opened m.store m.table
-  pub accepted : opened.answer ≡ answer.Opened
+  pub accepted : opened.answer ≡ Ok tt
 
 abbrev pub Always : (O.Opening → Stored → World → Type 0) → Type 0
 Always Q = rule.Always view_of (Does Ensures) Begins Q

@@ -6,9 +6,8 @@ use Rattle.rules.specs.Opening as O
 use Rattle.rules.specs.Released.{ReleasedBy}
 use Rattle.rules.specs.Calls.{begin}
 use Rattle.bidi_write.specs.View.{given}
-use Rattle.transport.specs.View.{released}
+use Rattle.transport.specs.View.{Left, released}
 use Rattle.transport.specs.Claim.{Memory, view_of, ValidAt}
-use Rattle.transport.specs.declared.Outcome.{Outcome}
 use Rattle.transport.specs.declared.Session.{Session}
 use Rattle.claims.specs.Claim.{Begins}
 
@@ -16,9 +15,9 @@ abbrev pub stored_in : Session → ℕ
 stored_in s = s.worker.replay_buffer.unpersisted_bytes
 
 -- every call on a session that an opening and calls left. Says: what is known of the call.
-abbrev pub AlwaysReleased : (R.Call → Memory → Bytes → Outcome → Bytes → List ℕ → Bytes → Type 0) → Type 0
+abbrev pub AlwaysReleased : (R.Call → Memory → Bytes → Left → Bytes → List ℕ → Bytes → Type 0) → Type 0
 AlwaysReleased Says =
-    (c : R.Call) (m : Memory) (out : Bytes) (o : Outcome) (store : Bytes) (table : List ℕ) (out' : Bytes) → Says c m out o store table out'
+    (c : R.Call) (m : Memory) (out : Bytes) (o : Left) (store : Bytes) (table : List ℕ) (out' : Bytes) → Says c m out o store table out'
     → ValidAt m → ReleasedBy c (released o.answer) (stored_in m.session) (stored_in o.session)
 
 -- an accepted opening

@@ -1,6 +1,7 @@
 // Ported from google-cloud-storage 1.21.0, src/storage/bidi_write/transport.rs, Copyright 2026 Google LLC (Apache-2.0); changed: no tasks, channels or heap.
 // The host's calls: each is lent the session record, makes the core's call and stores what it left ("the host's outer calls are lent the session
 // record and update it"). A refused call leaves the record as it was, whatever it holds.
+// One function each, alike as they are: what a call is lent differs.
 #![tactic(auto)]
 
 ghost use Rattle.std.specs.Prelude.{length};
@@ -11,7 +12,7 @@ ghost use Rattle.transport.specs.Promise.{Promise, Promised, PromisedAt};
 ghost use Rattle.shown.specs.Shown.{Shown, Dials};
 ghost use Rattle.session.specs.Lent.{outcome};
 
-use bidi_write::{Break, Response};
+use bidi_write::{Break, Refusal, Response};
 use openings::{Opened, Opening};
 use shown::{View, spec_of, view_of};
 use state::AppendObjectSpec;
@@ -50,36 +51,46 @@ pub fn append(
     table: &mut [u64],
     out: &mut [u8],
     data: &[u8],
-) -> Answer
+) -> Result<Answer, Refusal>
     ensures { Promise (R.append «data».now (length out.old)) s.old store.old table.old out.old (outcome s.new result) store.new table.new out.new }
 {
-    let r = appends::append(*s, store, table, out, data);
+    let r = appends::append(*s, store, table, out, data)?;
     *s = r.session;
-    r.answer
+    Ok(r.answer)
 }
 
-pub fn flush(s: &mut Session, store: &[u8], table: &mut [u64], out: &mut [u8]) -> Answer
+pub fn flush(
+    s: &mut Session,
+    store: &[u8],
+    table: &mut [u64],
+    out: &mut [u8],
+) -> Result<Answer, Refusal>
     ensures { Promise (R.flush (length out.old)) s.old store.now table.old out.old (outcome s.new result) store.now table.new out.new }
 {
-    let r = flushes::flush(*s, store, table, out);
+    let r = flushes::flush(*s, store, table, out)?;
     *s = r.session;
-    r.answer
+    Ok(r.answer)
 }
 
-pub fn finalise(s: &mut Session, store: &[u8], table: &mut [u64], out: &mut [u8]) -> Answer
+pub fn finalise(
+    s: &mut Session,
+    store: &[u8],
+    table: &mut [u64],
+    out: &mut [u8],
+) -> Result<Answer, Refusal>
     ensures { Promise (R.finalise (length out.old)) s.old store.now table.old out.old (outcome s.new result) store.now table.new out.new }
 {
-    let r = flushes::finalise(*s, store, table, out);
+    let r = flushes::finalise(*s, store, table, out)?;
     *s = r.session;
-    r.answer
+    Ok(r.answer)
 }
 
-pub fn close(s: &mut Session) -> Answer
+pub fn close(s: &mut Session) -> Result<Answer, Refusal>
     ensures { Promised R.close s.old (outcome s.new result) }
 {
-    let r = transport::close::close(*s);
+    let r = transport::close::close(*s)?;
     *s = r.session;
-    r.answer
+    Ok(r.answer)
 }
 
 pub fn response(
@@ -88,12 +99,12 @@ pub fn response(
     table: &mut [u64],
     m: Response,
     handle: &[u8],
-) -> Answer
+) -> Result<Answer, Refusal>
     ensures { PromisedAt (R.response (response_of m handle.now)) s.old store.now table.old (outcome s.new result) table.new }
 {
-    let r = responses::response(*s, store, table, m, handle);
+    let r = responses::response(*s, store, table, m, handle)?;
     *s = r.session;
-    r.answer
+    Ok(r.answer)
 }
 
 pub fn handshake(
@@ -102,52 +113,62 @@ pub fn handshake(
     table: &mut [u64],
     m: Response,
     handle: &[u8],
-) -> Answer
+) -> Result<Answer, Refusal>
     ensures { PromisedAt (R.handshake (response_of m handle.now)) s.old store.now table.old (outcome s.new result) table.new }
 {
-    let r = responses::handshake(*s, store, table, m, handle);
+    let r = responses::handshake(*s, store, table, m, handle)?;
     *s = r.session;
-    r.answer
+    Ok(r.answer)
 }
 
-pub fn stream_break(s: &mut Session, b: Break, detail: &[u8]) -> Answer
+pub fn stream_break(s: &mut Session, b: Break, detail: &[u8]) -> Result<Answer, Refusal>
     ensures { Promised (R.break (break_of b detail.now)) s.old (outcome s.new result) }
 {
-    let r = reconnects::stream_break(*s, b, detail);
+    let r = reconnects::stream_break(*s, b, detail)?;
     *s = r.session;
-    r.answer
+    Ok(r.answer)
 }
 
-pub fn judge(s: &mut Session, verdict: u8) -> Answer
+pub fn judge(s: &mut Session, verdict: u8) -> Result<Answer, Refusal>
     ensures { Promised (R.judge verdict) s.old (outcome s.new result) }
 {
-    let r = reconnects::judge(*s, verdict);
+    let r = reconnects::judge(*s, verdict)?;
     *s = r.session;
-    r.answer
+    Ok(r.answer)
 }
 
-pub fn failed_attempt(s: &mut Session, b: Break, detail: &[u8], verdict: u8) -> Answer
+pub fn failed_attempt(
+    s: &mut Session,
+    b: Break,
+    detail: &[u8],
+    verdict: u8,
+) -> Result<Answer, Refusal>
     ensures { Promised (R.failed_attempt (break_of b detail.now) verdict) s.old (outcome s.new result) }
 {
-    let r = reconnects::failed_attempt(*s, b, detail, verdict);
+    let r = reconnects::failed_attempt(*s, b, detail, verdict)?;
     *s = r.session;
-    r.answer
+    Ok(r.answer)
 }
 
-pub fn next_request(s: &mut Session, store: &[u8], table: &[u64], out: &mut [u8]) -> Answer
+pub fn next_request(
+    s: &mut Session,
+    store: &[u8],
+    table: &[u64],
+    out: &mut [u8],
+) -> Result<Answer, Refusal>
     ensures { Promise (R.next_request (length out.old)) s.old store.now table.now out.old (outcome s.new result) store.now table.now out.new }
 {
-    let r = replays::next_request(*s, store, table, out);
+    let r = replays::next_request(*s, store, table, out)?;
     *s = r.session;
-    r.answer
+    Ok(r.answer)
 }
 
-pub fn send_failed(s: &mut Session) -> Answer
+pub fn send_failed(s: &mut Session) -> Result<Answer, Refusal>
     ensures { Promised R.send_failed s.old (outcome s.new result) }
 {
-    let r = replays::send_failed(*s);
+    let r = replays::send_failed(*s)?;
     *s = r.session;
-    r.answer
+    Ok(r.answer)
 }
 
 // What the host may see of the session; nothing changes.
