@@ -1,27 +1,25 @@
 -- A request and its answer, and a plan, in plain numbers: what is exported holds no enum.
-use Rattle.std.specs.Prelude.{◌≡◌, Bool, true, false, List, ℕ, ◌-◌, ◌^◌, ℤ}
+use Rattle.std.specs.Prelude.{◌≡◌, Bool, true, false, List, ℕ, ◌-◌, ◌^◌, ℤ, Some, None, Ok, Err}
 use Rattle.std.proofs.Math.Option.{Option, map}
 use Rattle.rules.specs.Message.{Bytes}
-use Rattle.bidi_write.specs.declared.Checksum.{Checksum}
-use Rattle.bidi_write.specs.declared.Checksum.TheVariants as checksum
-use Rattle.bidi_write.specs.declared.Data.{Data}
-use Rattle.bidi_write.specs.declared.Data.TheVariants as payload
+use Rattle.std.specs.declared.option.Option as opt
+use Rattle.std.specs.declared.result.Result.{Result}
+use Rattle.bidi_write.specs.declared.ChecksummedData.{ChecksummedData}
+use Rattle.bidi_write.specs.declared.Refusal.{Refusal}
 use Rattle.bidi_write.specs.declared.Request.{Request}
 use Rattle.wire.specs.Answer.{answered, written}
-use Rattle.wire.specs.declared.WriteAnswer.{WriteAnswer}
-use Rattle.wire.specs.declared.WriteAnswer.TheVariants as answer
 use Rattle.plan_rules.specs.Plan.{Answered, refuses, needs, plans}
 use Rattle.measure.specs.declared.PlanNumbers.{PlanNumbers}
 
-abbrev pub data_of : (present : Bool) (length crc32c : ℕ) → Data
-data_of true n c = payload.Checksummed (record { length = n; crc32c = c })
-data_of false n c = payload.Absent
+abbrev pub data_of : (present : Bool) (length crc32c : ℕ) → opt.Option ChecksummedData
+data_of true n c = Some (record { length = n; crc32c = c })
+data_of false n c = None
 
-abbrev pub checksum_of : (present : Bool) (crc32c : ℕ) → Checksum
-checksum_of true c = checksum.Known c
-checksum_of false c = checksum.Unknown
+abbrev pub checksum_of : (present : Bool) (crc32c : ℕ) → opt.Option ℕ
+checksum_of true c = Some c
+checksum_of false c = None
 
-abbrev pub request_of : ℤ → Data → Checksum → (lookup flush finish : Bool) → Request
+abbrev pub request_of : ℤ → opt.Option ChecksummedData → opt.Option ℕ → (lookup flush finish : Bool) → Request
 request_of z d c lookup flush finish = record {
   write_offset = record { 0 = z };
   «data» = d;
@@ -32,9 +30,9 @@ request_of z d c lookup flush finish = record {
 }
 
 -- the largest number says that nothing was written
-abbrev pub count_of : WriteAnswer → ℕ
-count_of (answer.Wrote n) = n
-count_of (answer.Refused x) = 2 ^ 64 - 1
+abbrev pub count_of : Result ℕ Refusal → ℕ
+count_of (Ok n) = n
+count_of (Err x) = 2 ^ 64 - 1
 
 -- what writing a request answers, and what it leaves in the buffer
 abbrev pub Wrote : Request → (lent buffer : Bytes) (count : ℕ) (buffer' : Bytes) → Type 0

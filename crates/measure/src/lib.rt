@@ -5,16 +5,13 @@
 ghost use Rattle.std.specs.Prelude.{◌≡◌};
 ghost use Rattle.std.proofs.Math.Option.{some};
 ghost use Rattle.crc32c.specs.Reg.{crc_of, joined};
-ghost use Rattle.planning.specs.Answer.{answer_of};
-ghost use Rattle.measure.specs.Plain.{data_of, checksum_of, request_of, count_of, Wrote, numbers_of, planned_numbers};
+ghost use Rattle.measure.specs.Plain.{data_of, checksum_of, request_of, Wrote, planned_numbers};
 
-use bidi_write::{Checksum, ChecksummedData, Data, Offset, Request, refusal_number};
-use planning::PlanAnswer;
-use wire::WriteAnswer;
+use bidi_write::{ChecksummedData, Offset, Request, refusal_number};
 
 // What a plan answers: the refusal's number, or 0 and what is needed.
 #[repr(C)]
-#[derive(Clone, Copy)]
+#[derive(Clone, Copy, Default)]
 pub struct PlanNumbers {
     pub refused: u64,
     pub chunks: u64,
@@ -39,6 +36,7 @@ pub extern "C" fn michqoya_combine(crc1: u32, crc2: u32, len2: u64) -> u32
 }
 
 // Answers how many bytes it wrote, and 2^64 - 1 where it refuses.
+// C has no Option: a flag stands beside what it tells of.
 #[unsafe(no_mangle)]
 pub extern "C" fn michqoya_write(
     write_offset: i64,
@@ -57,41 +55,13 @@ pub extern "C" fn michqoya_write(
 {
     let request = Request {
         write_offset: Offset(write_offset),
-        data: data_of(has_data, length, crc32c),
-        object_checksums: checksum_of(has_checksum, checksum),
+        data: has_data.then_some(ChecksummedData { length, crc32c }),
+        object_checksums: has_checksum.then_some(checksum),
         state_lookup,
         flush,
         finish_write,
     };
-    let answer = wire::write(request, data, buffer);
-    count(answer)
-}
-
-fn data_of(present: bool, length: usize, crc32c: u32) -> Data
-    ensures { result ≡ data_of present length crc32c }
-{
-    if present {
-        return Data::Checksummed(ChecksummedData { length, crc32c });
-    }
-    Data::Absent
-}
-
-fn checksum_of(present: bool, crc32c: u32) -> Checksum
-    ensures { result ≡ checksum_of present crc32c }
-{
-    if present {
-        return Checksum::Known(crc32c);
-    }
-    Checksum::Unknown
-}
-
-fn count(answer: WriteAnswer) -> usize
-    ensures { result ≡ count_of answer }
-{
-    match answer {
-        WriteAnswer::Refused(_) => usize::MAX,
-        WriteAnswer::Wrote(n) => n,
-    }
+    wire::write(request, data, buffer).unwrap_or(usize::MAX)
 }
 
 // Where it refuses, the needs are 0.
@@ -99,23 +69,12 @@ fn count(answer: WriteAnswer) -> usize
 pub extern "C" fn michqoya_plan(limit: usize, lengths: &[u32]) -> PlanNumbers
     ensures { planned_numbers limit lengths.now ≡ some result }
 {
-    let answer = planning::plan(limit, lengths);
-    numbers(answer)
-}
-
-fn numbers(answer: PlanAnswer) -> PlanNumbers
-    ensures { result ≡ numbers_of (answer_of answer) }
-{
-    match answer {
-        PlanAnswer::Refused(x) => PlanNumbers {
+    match planning::plan(limit, lengths) {
+        Err(x) => PlanNumbers {
             refused: refusal_number(x),
-            chunks: 0,
-            stored: 0,
-            held: 0,
-            appends: 0,
-            flushes: 0,
+            ..PlanNumbers::default()
         },
-        PlanAnswer::Planned(n) => PlanNumbers {
+        Ok(n) => PlanNumbers {
             refused: 0,
             chunks: n.chunks,
             stored: n.stored,

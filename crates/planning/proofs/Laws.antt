@@ -4,7 +4,7 @@ use mathlib.Core.Bool.{Bool, true, false, cond, ◌||◌}
 use mathlib.Core.Option.{map, some}
 use mathlib.Core.List.{List}
 use Prim.Native.Nat.{ℕ, zero, suc, ◌+◌, ◌*◌, ◌-◌, ◌/◌, ◌%◌, ◌^◌, ◌≤◌, ◌<◌}
-use native.Mathlib.Nat.{suc-mul, mod-lt, div-add-mod', div-eq_of_lt, mod-eq_of_lt, div-eq-sub-div, mul-add-div_right, mul-add-mod_self_right, add-mul}
+use native.Mathlib.Nat.{suc-mul, mod-lt, div-add-mod', div-eq_of_lt, mod-eq_of_lt, mul-add-div_right, mul-add-mod_self_right, add-mul}
 use native.Mathlib.Numerals.{add-one}
 use native.Mathlib.Omega.{arith}
 use lib.Dec.{eqb, ltb}
@@ -17,7 +17,6 @@ use Rattle.admission.proofs.Limits.{within_limits}
 use Rattle.plan_rules.specs.Plan.{Plan, max_entries, refuses, needs, planned, plans}
 use Rattle.plan_rules.specs.Counting.{one_for, nothing_yet, appended, counted, counted_all}
 use Rattle.plan_rules.proofs.Planned.{planned-counted}
-use Rattle.planning.specs.Answer.{Roomy}
 
 one-most : (n : ℕ) → one_for n ≤ 1
 one-most zero = omega arith
@@ -30,7 +29,7 @@ one-small (suc n) = omega arith
 -- ---- an append
 
 -- a quotient with a remainder below the divisor is the quotient
-pub append-counted : (C n q left : ℕ) (p : Plan) → 0 < n → p.held + n ≡ q * C + left → left < C → appended C q left p ≡ counted C n p
+append-counted : (C n q left : ℕ) (p : Plan) → 0 < n → p.held + n ≡ q * C + left → left < C → appended C q left p ≡ counted C n p
 unfolding counted
 append-counted C zero q left p z e l = absurd (omega arith)
 append-counted C (suc n) q left p z e l =
@@ -39,23 +38,17 @@ append-counted C (suc n) q left p z e l =
     let remainder : (p.held + suc n) % C ≡ left = ap (λ (x : ℕ). x % C) e ∙ mul-add-mod_self_right q C left ∙ mod-eq_of_lt l in
     rw (quotient, remainder) refl
 
-pub quotient_most : (n C : ℕ) → n / C * C ≤ n
+quotient_most : (n C : ℕ) → n / C * C ≤ n
 quotient_most n C = omega (arith, div-add-mod' n C)
 
-pub times-most : (q C : ℕ) → 0 < C → q ≤ q * C
+times-most : (q C : ℕ) → 0 < C → q ≤ q * C
 times-most zero C z = omega arith
 times-most (suc q) C z = omega (arith, times-most q C z, suc-mul q C)
 
-pub below_two : (n C : ℕ) → C ≤ n → n < 2 * C → 1 ≡ n / C
-below_two n C l m = sym (div-eq-sub-div (omega arith) l ∙ ap (λ (k : ℕ). k + 1) (div-eq_of_lt (omega arith)) ∙ omega arith)
-
 -- by the entry's own rest r and quotient w, as the code has them, with C as c, and the chunks m that held bytes and rest fill
-module _ (C h n c r : ℕ) (below : h < C) (c-is : c ≡ C) (r-is : r ≡ n - n / C * C) where
+module _ (C h n c r : ℕ) (below : h < C) (c-is : c ≡ C) (r-is : r ≡ n % C) where
   some_limit : 0 < C
   some_limit = omega arith
-
-  pub rest_below : h + r < 2 * c
-  rest_below = omega (arith, div-add-mod' n C, mod-lt n some_limit)
 
   module _ (w m : ℕ) (w-is : w ≡ n / C) (m-is : m ≡ (h + r) / c) where
     whole_is : (w + m) * c ≡ n / C * C + (h + r) / C * C
@@ -64,19 +57,11 @@ module _ (C h n c r : ℕ) (below : h < C) (c-is : c ≡ C) (r-is : r ≡ n - n 
     filled_is : m * c ≡ (h + r) / C * C
     filled_is = rw (m-is, c-is) refl
 
-    pub filled-most : m * c ≤ h + r
-    filled-most = omega (arith, filled_is, quotient_most (h + r) C)
-
-    pub whole_fits : n < 2 ^ 32 → C < 2 ^ 32 → (w + m < 2 ^ 33) × ((w + m) * c < 2 ^ 33)
-    whole_fits l k =
-        let most : (w + m) * c < 2 ^ 33 = omega (arith, whole_is, quotient_most (h + r) C, quotient_most n C) in
-        (omega (arith, times-most (w + m) c (omega arith)), most)
-
     pub append-whole : (p : Plan) → p.held ≡ h → 0 < n → appended c (w + m) (h + r - m * c) p ≡ counted C n p
     append-whole p e y =
         ap (λ (k : ℕ). appended k (w + m) (h + r - m * c) p) c-is
         ∙ append-counted C n (w + m) (h + r - m * c) p y
-        (omega (arith, whole_is, ap (λ (k : ℕ). (w + m) * k) c-is, filled_is, quotient_most (h + r) C, quotient_most n C))
+        (omega (arith, whole_is, ap (λ (k : ℕ). (w + m) * k) c-is, filled_is, quotient_most (h + r) C, div-add-mod' n C))
         (omega (arith, filled_is, div-add-mod' (h + r) C, mod-lt (h + r) some_limit))
 
 -- ---- the loop
@@ -88,15 +73,6 @@ pub record Bounded (C i : ℕ) (p : Plan) : Type 0 where
   pub bytes_most : p.stored + p.held ≤ 4294967295 * i
   pub appends_most : p.appends ≤ p.chunks + i
   pub flushes_most : p.flushes ≤ 2 * i
-
-pub roomy : (C i : ℕ) (p : Plan) → Bounded C i p → i ≤ 65536 → Roomy p
-roomy C i p b l = record {
-  chunks = omega (arith, b);
-  stored = omega (arith, b);
-  held = omega (arith, b);
-  appends = omega (arith, b);
-  flushes = omega (arith, b);
-}
 
 bounded_next : (C i n : ℕ) (p : Plan) → Bounded C i p → n < 2 ^ 32 → Bounded C (i + 1) (counted C n p)
 unfolding counted
@@ -122,13 +98,6 @@ pub record Counted (C : ℕ) (l : List ℕ) (i : ℕ) (p : Plan) : Type 0 where
   pub within : i ≤ length l
   pub to_come : counted_all C (drop i l) p ≡ counted_all C l nothing_yet
   pub bounded : Bounded C i p
-
-pub begins : (C : ℕ) (l : List ℕ) → 0 < C → Counted C l 0 nothing_yet
-begins C l z = record {
-  within = omega arith;
-  to_come = refl;
-  bounded = record { held_below = z; chunks_most = omega arith; bytes_most = omega arith; appends_most = omega arith; flushes_most = omega arith };
-}
 
 pub counts_on : (C : ℕ) (l : List ℕ) (i n : ℕ) (p q : Plan) → i < length l → n ≡ get_or l i 0 → n < 2 ^ 32 → q ≡ counted C n p → Counted C l i p → Counted C l (i + 1) q
 unfolding counted_all

@@ -8,7 +8,7 @@ ghost use Rattle.plan_rules.specs.Counting.{one_for, nothing_yet, flushed, appen
 ghost use Rattle.planning.specs.Answer.{plan_of, answer_of, Roomy};
 
 use admission::bad_limits;
-use bidi_write::Refusal;
+use bidi_write::{Refusal, refuse_if};
 
 // The most entries of a list.
 pub const MAX_ENTRIES: usize = 65536;
@@ -17,7 +17,7 @@ pub const MAX_ENTRIES: usize = 65536;
 //
 // All of it fits, far below 2^64: 65,536 entries bring fewer than 2^48 bytes; a chunk has a byte at least; each append call cuts a chunk or is the last of its
 // entry; an entry makes at most two flush calls.
-#[derive(Clone, Copy)]
+#[derive(Clone, Copy, Default)]
 pub struct Needs {
     // cut, each of which fills a slot
     pub chunks: u64,
@@ -29,25 +29,14 @@ pub struct Needs {
     pub flushes: u64,
 }
 
-// Refusal 1 or 16, or what is needed.
-#[derive(Clone, Copy)]
-pub enum PlanAnswer {
-    Refused(Refusal),
-    Planned(Needs),
-}
-
-// From the chunk limit and a list of append lengths, 0 for a flush.
-pub fn plan(limit: usize, lengths: &[u32]) -> PlanAnswer
+// What is needed, from the chunk limit and a list of append lengths, 0 for a flush. Refused with 1 or 16.
+pub fn plan(limit: usize, lengths: &[u32]) -> Result<Needs, Refusal>
     ensures { plans limit lengths.now ≡ some (answer_of result) }
 {
     // the opening's own test, of a capacity that is in range
-    if bad_limits(limit, 0) {
-        return PlanAnswer::Refused(Refusal::Limits);
-    }
-    if MAX_ENTRIES < lengths.len() {
-        return PlanAnswer::Refused(Refusal::TooManyEntries);
-    }
-    PlanAnswer::Planned(all(limit as u32, lengths))
+    refuse_if(bad_limits(limit, 0), Refusal::Limits)?;
+    refuse_if(MAX_ENTRIES < lengths.len(), Refusal::TooManyEntries)?;
+    Ok(all(limit as u32, lengths))
 }
 
 fn all(limit: u32, lengths: &[u32]) -> Needs
@@ -56,21 +45,14 @@ fn all(limit: u32, lengths: &[u32]) -> Needs
     ensures result_value { plan_of result ≡ counted_all limit lengths.now nothing_yet }
     ensures stored_bound { result.stored < 2 ^ 48 }
 {
-    let mut needs = Needs {
-        chunks: 0,
-        stored: 0,
-        held: 0,
-        appends: 0,
-        flushes: 0,
-    };
-    let mut i = 0;
-    while i < lengths.len() {
-        needs = entry(limit, needs, lengths[i]);
-        i += 1;
+    let mut needs = Needs::default();
+    for &n in lengths {
+        needs = entry(limit, needs, n);
     }
     needs
 }
 
+#[tactic(auto, unfolding(plan_rules::specs::Counting::counted))]
 fn entry(limit: u32, needs: Needs, n: u32) -> Needs
     requires held_lt_limit { needs.held < limit }
     requires roomy { Roomy (plan_of needs) }
@@ -78,9 +60,10 @@ fn entry(limit: u32, needs: Needs, n: u32) -> Needs
     ensures n_bound { n < 2 ^ 32 }
 {
     if n == 0 {
-        return flush(needs);
+        flush(needs)
+    } else {
+        append(limit, needs, n)
     }
-    append(limit, needs, n)
 }
 
 // Held bytes are cut by a call of their own; the next call waits.
@@ -93,8 +76,8 @@ fn flush(needs: Needs) -> Needs
         chunks: needs.chunks + cut,
         stored: needs.stored + needs.held,
         held: 0,
-        appends: needs.appends,
         flushes: needs.flushes + 1 + cut,
+        ..needs
     }
 }
 
@@ -105,12 +88,11 @@ fn append(limit: u32, needs: Needs, n: u32) -> Needs
     requires roomy { Roomy (plan_of needs) }
     ensures { plan_of result ≡ counted limit n (plan_of needs) }
 {
-    let whole = n / limit;
-    let rest = n - whole * limit;
-    let left = needs.held + wide(rest);
-    let limit = wide(limit);
+    let left = needs.held + u64::from(n % limit);
+    let whole = u64::from(n / limit);
+    let limit = u64::from(limit);
     let more = filled(left, limit);
-    cut(limit, needs, wide(whole) + more, left - more * limit)
+    cut(limit, needs, whole + more, left - more * limit)
 }
 
 // The chunks that fewer than two chunks' bytes fill: a number, so that no jump asks which.
@@ -119,10 +101,7 @@ fn filled(bytes: u64, limit: u64) -> u64
     ensures value { result ≡ bytes / limit }
     ensures upper_bound { result ≤ 1 }
 {
-    if bytes < limit {
-        return 0;
-    }
-    1
+    u64::from(limit <= bytes)
 }
 
 // Each whole chunk takes a call, and so does what is left over.
@@ -136,7 +115,7 @@ fn cut(limit: u64, needs: Needs, whole: u64, left: u64) -> Needs
         stored: needs.stored + whole * limit,
         held: left,
         appends: needs.appends + whole + one_for(left),
-        flushes: needs.flushes,
+        ..needs
     }
 }
 
@@ -144,15 +123,5 @@ fn one_for(bytes: u64) -> u64
     ensures value { result ≡ one_for bytes }
     ensures upper_bound { result ≤ 1 }
 {
-    if bytes == 0 {
-        return 0;
-    }
-    1
-}
-
-fn wide(x: u32) -> u64
-    ensures value { result ≡ x }
-    ensures upper_bound { result ≤ 4294967295 }
-{
-    x as u64
+    u64::from(bytes != 0)
 }

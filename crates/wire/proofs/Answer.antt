@@ -12,10 +12,10 @@ use Rattle.wire_format.specs.Wire.{read_request, wire, shortest, InRange}
 use Rattle.wire_format.proofs.Back.{reads_back}
 use Rattle.wire_format.proofs.Shortest.{shortest_is}
 use Rattle.wire.specs.Answer.{refuses, answered, written, Writes}
-use Rattle.wire.specs.declared.WriteAnswer.TheVariants as answer
+use Rattle.std.specs.Prelude.{Ok, Err}
 
 module _ (r : Request) (lent buffer : Bytes) (h : InRange (request_of r lent)) where
-  refused : refuses r lent buffer ≡ true → Writes r lent buffer (answer.Refused refusal.ShortBuffer) buffer
+  refused : refuses r lent buffer ≡ true → Writes r lent buffer (Err refusal.ShortBuffer) buffer
   unfolding answered written
   refused t =
       record {
@@ -26,17 +26,17 @@ module _ (r : Request) (lent buffer : Bytes) (h : InRange (request_of r lent)) w
         least = shortest_is (request_of r lent) h;
       }
 
-  pub data_short : length lent < length_of r.«data» → Writes r lent buffer (answer.Refused refusal.ShortBuffer) buffer
+  pub data_short : length lent < length_of r.«data» → Writes r lent buffer (Err refusal.ShortBuffer) buffer
   unfolding refuses
   data_short l = refused (rw (lt-ltb (length lent) (length_of r.«data») l))
 
   module _ (given : length_of r.«data» ≤ length lent) where
-    pub buffer_short : length buffer < shortest (request_of r lent) → Writes r lent buffer (answer.Refused refusal.ShortBuffer) buffer
+    pub buffer_short : length buffer < shortest (request_of r lent) → Writes r lent buffer (Err refusal.ShortBuffer) buffer
     unfolding refuses
     buffer_short l = refused (rw (le-ltb (length lent) (length_of r.«data») given, lt-ltb (length buffer) (shortest (request_of r lent)) l))
 
     pub both_long : (m : ℕ) (buffer' : Bytes) → shortest (request_of r lent) ≤ length buffer → Written (wire (request_of r lent)) buffer buffer' 0 m
-        → Writes r lent buffer (answer.Wrote m) buffer'
+        → Writes r lent buffer (Ok m) buffer'
     unfolding answered written refuses shortest
     both_long m buffer' l w =
         let q = wire (request_of r lent) in
@@ -45,7 +45,7 @@ module _ (r : Request) (lent buffer : Bytes) (h : InRange (request_of r lent)) w
         = w.stored ∙ sets-eq q buffer 0 (omega arith) ∙ ap (λ (k : ℕ). q ++ drop k buffer) (zero-add (length q)) in
         let t : refuses r lent buffer ≡ false = rw (le-ltb (length lent) (length_of r.«data») given) (le-ltb (length buffer) (length q) l) in
         record {
-          answer_is = rw t (ap answer.Wrote count);
+          answer_is = rw t (ap Ok count);
           buffer_is = rw t front;
           reads = λ n e.
               let same : m ≡ n = cc in

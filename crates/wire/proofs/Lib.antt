@@ -1,4 +1,3 @@
-pub mod Signs
 pub mod Writing
 pub mod Range
 pub mod Answer

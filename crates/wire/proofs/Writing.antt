@@ -17,6 +17,7 @@ use Rattle.bidi_write.specs.View.{checksum_of, request_of}
 use Rattle.bidi_write.specs.declared.Request.{Request}
 use Rattle.wire_format.specs.Wire.{data_of, data_fields, sums_fields, data_slot, sums_slot, message_fields, with_sum, sum_alone, to_message, wire, shortest}
 use Rattle.wire_format.proofs.Cost.{cost, cost_nil, cost-one, size-bytes, size-int, size-fixed32, data_cost, data_cost_lem}
+use Rattle.wire_format.proofs.Room.{sum-length}
 use Rattle.wire_format.proofs.Least.{message-cost}
 
 -- what a piece leaves of the room for it and n bytes more
@@ -53,9 +54,9 @@ module _ (b : Bytes) (c n : ℕ) (e : n ≡ data_cost (data_of b (some c))) wher
 five : (k c : ℕ) → k < 15 → cost (field k (fixed32 c) ∷ []) ≡ 5
 five k c h = cost-one k (fixed32 c) ∙ size-fixed32 k c ∙ omega (arith, length_few (k * 8 + 5) (omega arith))
 
-pub message-none : (b : Bytes) (c : ℕ) → length b ≡ 0 → data_cost (data_of b (some c)) ≡ 5
-message-none [] c h = omega (arith, data_cost_lem (data_of [] (some c)), cost_nil, five 2 c (omega arith))
-message-none (x ∷ b) c h = absurd (omega arith)
+pub message_none : (b : Bytes) (c : ℕ) → length b ≡ 0 → data_cost (data_of b (some c)) ≡ 5
+message_none [] c h = omega (arith, data_cost_lem (data_of [] (some c)), cost_nil, five 2 c (omega arith))
+message_none (x ∷ b) c h = absurd (omega arith)
 
 pub message_some : (b : Bytes) (c : ℕ) → 0 < length b → data_cost (data_of b (some c)) ≡ 1 + length (varint_of (length b)) + length b + 5
 message_some [] c h = absurd (omega arith)
@@ -82,14 +83,18 @@ pub sum-written : (c : ℕ) {x y z : Bytes} {at i j : ℕ} → Written (head 6 5
     → Written (write (sums_slot (some (sum_alone c)))) x z at j
 sum-written c p q = rw (sum-bytes c) (written_both p q)
 
+-- under a name that an attribute can cite
+pub sum_length : (c : ℕ) → cost (sums_slot (some (sum_alone c))) ≡ 7
+sum_length c = sum-length c
+
 -- ---- plain numbers
 
 pub offset_length : (n : ℕ) → 0 < n → cost (plain_int 3 n) ≡ 1 + length (varint_of n)
 offset_length zero h = absurd (omega arith)
 offset_length (suc n) h = cost-one 3 (int (suc n)) ∙ size-int 3 (suc n) ∙ omega (arith, length_few 24 (omega arith))
 
-pub flag-length : (k : ℕ) → k < 16 → cost (plain_bool k true) ≡ 2
-flag-length k h = cost-one k (int 1) ∙ size-int k 1 ∙ omega (arith, length_few (k * 8 + 0) (omega arith), length_few 1 (omega arith))
+pub flag_length : (k : ℕ) → k < 16 → cost (plain_bool k true) ≡ 2
+flag_length k h = cost-one k (int 1) ∙ size-int k 1 ∙ omega (arith, length_few (k * 8 + 0) (omega arith), length_few 1 (omega arith))
 
 -- ---- the request's six fields; n is the offset's 64 bits
 

@@ -14,85 +14,69 @@ ghost use Rattle.wire_format.specs.Wire as W;
 ghost use Rattle.wire_format.specs.Wire.{data_fields, data_slot, sums_slot, sum_alone, with_sum, wire, shortest};
 ghost use Rattle.wire.specs.Answer.{Writes};
 
-use bidi_write::{Checksum, Data, Difference, Offset, Refusal, Request, subtract};
+use bidi_write::{ChecksummedData, Offset, Refusal, Request, refuse_if};
 use protobuf::{put_bool, put_bytes, put_fixed32, put_head, put_int, varint_len};
-use std::num::wrapping_sub_u64;
-
-// Refusal 14, or how many bytes were written.
-#[derive(Clone, Copy)]
-pub enum WriteAnswer {
-    Refused(Refusal),
-    Wrote(usize),
-}
 
 // The 64 bits of an offset, those of its two's complement below zero.
 fn bits(offset: Offset) -> u64
     ensures { result ≡ of_z w64 offset.0 }
 {
-    let difference = subtract(offset, Offset(0));
-    match difference {
-        Difference::Below(n) => wrapping_sub_u64(0, n),
-        Difference::AtLeast(n) => n,
-    }
+    offset.0.cast_unsigned()
 }
 
 // ---- lengths, of a field where it has no other comment
 
 // The length that a request gives its data.
-fn length_of(payload: Data) -> usize
+fn length_of(payload: Option<ChecksummedData>) -> usize
     ensures { result ≡ length_of payload }
 {
-    match payload {
-        Data::Absent => 0,
-        Data::Checksummed(d) => d.length,
-    }
+    payload.map_or(0, |d| d.length)
 }
 
 // The length of the embedded message with n bytes of content and their sum.
+#[tactic(auto, using(protobuf_format::proofs::Varint::groups_of_most, crate::proofs::Writing::message_none, crate::proofs::Writing::message_some))]
 fn message_len(n: usize) -> usize
     requires { n < 2 ^ 63 }
     ensures upper_bound { result ≤ n + 16 }
     ensures value { (content : Bytes) (crc32c : ℕ) → length content ≡ n → result ≡ length (write (data_fields (W.data_of content (some crc32c)))) }
 {
     if n == 0 {
-        return 5;
+        5
+    } else {
+        1 + varint_len(n as u64) + n + 5
     }
-    1 + varint_len(n as u64) + n + 5
 }
 
+#[tactic(auto, using(protobuf_format::proofs::Varint::groups_of_most, wire_format::proofs::Cost::cost_nil, crate::proofs::Writing::offset_length))]
 fn offset_len(n: u64) -> usize
     ensures { (result ≡ length (write (plain_int 3 n))) × (result ≤ 11) }
 {
-    if n == 0 {
-        return 0;
-    }
-    1 + varint_len(n)
+    if n == 0 { 0 } else { 1 + varint_len(n) }
 }
 
-fn data_len(payload: Data) -> usize
+#[tactic(auto, using(protobuf_format::proofs::Varint::groups_of_most, wire_format::proofs::Cost::cost_nil, crate::proofs::Writing::data_length))]
+fn data_len(payload: Option<ChecksummedData>) -> usize
     requires { length_of payload < 2 ^ 63 }
     ensures upper_bound { result ≤ length_of payload + 27 }
     ensures value { (lent : Bytes) → length_of payload ≤ length lent → result ≡ length (write (data_slot (map with_sum (data_of payload lent)))) }
 {
     match payload {
-        Data::Absent => 0,
-        Data::Checksummed(d) => {
-            let n = d.length;
-            let inner = message_len(n);
+        None => 0,
+        Some(d) => {
+            let inner = message_len(d.length);
             1 + varint_len(inner as u64) + inner
         }
     }
 }
 
-fn checksum_len(checksum: Checksum) -> usize
+#[tactic(auto, using(wire_format::proofs::Cost::cost_nil, crate::proofs::Writing::sum_length))]
+fn checksum_len(checksum: Option<u32>) -> usize
     ensures { (result ≡ length (write (sums_slot (map sum_alone (checksum_of checksum))))) × (result ≤ 7) }
 {
-    match checksum {
-        Checksum::Unknown => 0,
-        Checksum::Known(_sum) => 7,
-    }
+    if checksum.is_some() { 7 } else { 0 }
 }
 
+#[tactic(auto, using(wire_format::proofs::Cost::cost_nil, crate::proofs::Writing::flag_length))]
 fn flag_len(b: bool) -> usize
     ensures upper_bound { result ≤ 2 }
     ensures by_index { (number : ℕ) → number < 16 → result ≡ length (write (plain_bool number b)) }
@@ -105,18 +89,12 @@ fn encoded_len(request: Request) -> usize
     requires { length_of request.«data» < 2 ^ 63 }
     ensures { (lent : Bytes) → length_of request.«data» ≤ length lent → result ≡ shortest (request_of request lent) }
 {
-    let offset = request.write_offset;
-    let payload = request.data;
-    let checksum = request.object_checksums;
-    let lookup = request.state_lookup;
-    let flush = request.flush;
-    let finish = request.finish_write;
-    offset_len(bits(offset))
-        + data_len(payload)
-        + checksum_len(checksum)
-        + flag_len(lookup)
-        + flag_len(flush)
-        + flag_len(finish)
+    offset_len(bits(request.write_offset))
+        + data_len(request.data)
+        + checksum_len(request.object_checksums)
+        + flag_len(request.state_lookup)
+        + flag_len(request.flush)
+        + flag_len(request.finish_write)
 }
 
 // ---- fields, each written behind the last
@@ -133,17 +111,13 @@ fn put_content(buffer: &mut [u8], at: usize, content: &[u8], crc32c: u32) -> usi
 }
 
 // The data field, where there is data.
-fn put_data(buffer: &mut [u8], at: usize, lent: &[u8], payload: Data) -> usize
+fn put_data(buffer: &mut [u8], at: usize, lent: &[u8], payload: Option<ChecksummedData>) -> usize
     requires { (length_of payload ≤ length lent.now) × (at + length (write (data_slot (map with_sum (data_of payload lent.now)))) ≤ length buffer.old) }
     ensures { Written (write (data_slot (map with_sum (data_of payload lent.now)))) buffer.old buffer.new at result }
 {
     match payload {
-        Data::Absent => at,
-        Data::Checksummed(d) => {
-            let n = d.length;
-            let sum = d.crc32c;
-            put_content(buffer, at, &lent[..n], sum)
-        }
+        None => at,
+        Some(d) => put_content(buffer, at, &lent[..d.length], d.crc32c),
     }
 }
 
@@ -157,13 +131,13 @@ fn put_sum(buffer: &mut [u8], at: usize, crc32c: u32) -> usize
 }
 
 // The field of the object's sum, where it is known.
-fn put_checksum(buffer: &mut [u8], at: usize, checksum: Checksum) -> usize
+fn put_checksum(buffer: &mut [u8], at: usize, checksum: Option<u32>) -> usize
     requires { at + length (write (sums_slot (map sum_alone (checksum_of checksum)))) ≤ length buffer.old }
     ensures { Written (write (sums_slot (map sum_alone (checksum_of checksum)))) buffer.old buffer.new at result }
 {
     match checksum {
-        Checksum::Unknown => at,
-        Checksum::Known(sum) => put_sum(buffer, at, sum),
+        None => at,
+        Some(sum) => put_sum(buffer, at, sum),
     }
 }
 
@@ -172,32 +146,20 @@ fn put_fields(buffer: &mut [u8], lent: &[u8], request: Request) -> usize
     requires { (length_of request.«data» ≤ length lent.now) × (shortest (request_of request lent.now) ≤ length buffer.old) }
     ensures { Written (wire (request_of request lent.now)) buffer.old buffer.new 0 result }
 {
-    let offset = request.write_offset;
-    let payload = request.data;
-    let checksum = request.object_checksums;
-    let lookup = request.state_lookup;
-    let flush = request.flush;
-    let finish = request.finish_write;
-    let a = put_int(buffer, 0, 3, bits(offset));
-    let b = put_data(buffer, a, lent, payload);
-    let c = put_checksum(buffer, b, checksum);
-    let d = put_bool(buffer, c, 7, lookup);
-    let e = put_bool(buffer, d, 8, flush);
-    put_bool(buffer, e, 9, finish)
+    let a = put_int(buffer, 0, 3, bits(request.write_offset));
+    let b = put_data(buffer, a, lent, request.data);
+    let c = put_checksum(buffer, b, request.object_checksums);
+    let d = put_bool(buffer, c, 7, request.state_lookup);
+    let e = put_bool(buffer, d, 8, request.flush);
+    put_bool(buffer, e, 9, request.finish_write)
 }
 
-// Writes the request to the front of the buffer. Its data is the front of what is lent: of the out buffer as the call that handed it out left it.
+// Writes the request to the front of the buffer, and answers how many bytes it took. Its data is the front of what is lent: of the out buffer as the call that handed it out left it.
 // Refused with 14, and nothing is written, where the data lent or the buffer is too short.
-pub fn write(request: Request, data: &[u8], buffer: &mut [u8]) -> WriteAnswer
+pub fn write(request: Request, data: &[u8], buffer: &mut [u8]) -> Result<usize, Refusal>
     ensures { Writes request «data».now buffer.old result buffer.new }
 {
-    let payload = request.data;
-    if data.len() < length_of(payload) {
-        return WriteAnswer::Refused(Refusal::ShortBuffer);
-    }
-    let n = encoded_len(request);
-    if buffer.len() < n {
-        return WriteAnswer::Refused(Refusal::ShortBuffer);
-    }
-    WriteAnswer::Wrote(put_fields(buffer, data, request))
+    refuse_if(data.len() < length_of(request.data), Refusal::ShortBuffer)?;
+    refuse_if(buffer.len() < encoded_len(request), Refusal::ShortBuffer)?;
+    Ok(put_fields(buffer, data, request))
 }
