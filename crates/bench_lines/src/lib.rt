@@ -10,8 +10,8 @@ ghost use Rattle.bench_lines.specs.Text.{line_of};
 ghost use Rattle.text.specs.Line.{text_of};
 ghost use Rattle.bench_lines.specs.View.{open_answer_of};
 
-use crate::words::{begun, refused, says};
-use openings::OpenAnswer;
+use crate::words::{begun, says};
+use bidi_write::Refusal;
 use text::Line;
 use transport::Answer;
 
@@ -33,18 +33,15 @@ pub enum Mark {
 }
 
 // The line that a call's answer prints, with its end. The data of its request is in an out buffer that has room for it.
-pub fn line(mark: Mark, answer: Answer) -> Line
+pub fn line(mark: Mark, answer: Result<Answer, Refusal>) -> Line
     ensures { (out : Bytes) → sent_length answer ≤ length out → text_of result ≡ line_of mark (answer_of answer out) }
 {
     says(begun(mark), mark, answer).byte(b'\n')
 }
 
 // The line that an opening's answer prints.
-pub fn opening_line(answer: OpenAnswer) -> Line
+pub fn opening_line(answer: Result<(), Refusal>) -> Line
     ensures { text_of result ≡ line_of Mark.Open (open_answer_of answer) }
 {
-    match answer {
-        OpenAnswer::Refused(x) => refused(begun(Mark::Open), x).byte(b'\n'),
-        OpenAnswer::Opened => begun(Mark::Open).text(b"ok\n"),
-    }
+    line(Mark::Open, answer.map(|()| Answer::Accepted))
 }

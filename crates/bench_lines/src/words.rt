@@ -9,69 +9,56 @@ ghost use Rattle.text.specs.Decimal.{number};
 ghost use Rattle.bench_lines.specs.Text.{form_of};
 ghost use Rattle.bench_lines.specs.Text as T;
 ghost use Rattle.text.specs.Line.{text_of, Adds};
-ghost use Rattle.bench_lines.specs.View.{Spells};
 
 use crate::Mark;
-use bidi_write::{Data, Refusal, Request};
+use bidi_write::{ChecksummedData, Refusal, Request};
 use text::Line;
-use transport::{Answer, MaybeRequest};
-
-#[derive(Clone, Copy)]
-pub struct Letters(pub u8, pub u8);
+use transport::Answer;
 
 // The mark, and a space.
 pub fn begun(mark: Mark) -> Line
     ensures { text_of result ≡ (form_of mark).name ++ ascii " " }
 {
-    word(Line::new(), name(mark)).byte(b' ')
+    Line::new().text(name(mark)).byte(b' ')
 }
 
-fn word(line: Line, w: Letters) -> Line
-    ensures { Adds line (w.0 ∷ w.1 ∷ []) result }
-{
-    line.byte(w.0).byte(w.1)
-}
-
-fn name(mark: Mark) -> Letters
-    ensures { Spells result (form_of mark).name }
+fn name(mark: Mark) -> &'static [u8]
+    ensures { result.now ≡ (form_of mark).name }
 {
     match mark {
-        Mark::Open => Letters(b'O', b'P'),
-        Mark::Append => Letters(b'A', b'P'),
-        Mark::Flush => Letters(b'F', b'L'),
-        Mark::Finalise => Letters(b'F', b'I'),
-        Mark::Close => Letters(b'C', b'L'),
-        Mark::Response => Letters(b'R', b'S'),
-        Mark::Handshake => Letters(b'H', b'S'),
-        Mark::Break => Letters(b'B', b'R'),
-        Mark::Verdict => Letters(b'V', b'E'),
-        Mark::Next => Letters(b'N', b'X'),
-        Mark::SendFailed => Letters(b'S', b'F'),
-        Mark::FailedAttempt => Letters(b'F', b'A'),
+        Mark::Open => b"OP",
+        Mark::Append => b"AP",
+        Mark::Flush => b"FL",
+        Mark::Finalise => b"FI",
+        Mark::Close => b"CL",
+        Mark::Response => b"RS",
+        Mark::Handshake => b"HS",
+        Mark::Break => b"BR",
+        Mark::Verdict => b"VE",
+        Mark::Next => b"NX",
+        Mark::SendFailed => b"SF",
+        Mark::FailedAttempt => b"FA",
     }
 }
 
 // What an answer says, behind the mark.
-pub fn says(line: Line, mark: Mark, answer: Answer) -> Line
+pub fn says(line: Line, mark: Mark, answer: Result<Answer, Refusal>) -> Line
     ensures { (out : Bytes) → sent_length answer ≤ length out → Adds line (T.says (form_of mark) (answer_of answer out)) result }
 {
     match answer {
-        Answer::Refused(x) => refused(line, x),
-        Answer::Took(n, r) => counted(line, mark, n, r),
-        Answer::Sends(r) => request(line, r),
-        Answer::Waits(r, n) => waits(line, r, n),
-        Answer::Completes(c) => {
-            let request = c.request;
-            counted(line, mark, c.waiters, request)
-        }
-        Answer::Attempt(n) => line.number(n as u64),
-        Answer::Accepted => word(line, okay(mark)),
-        Answer::Done => line.text(b"done"),
-        Answer::Ends(_) => line.text(b"end"),
+        Err(x) => refused(line, x),
+        Ok(Answer::Took(n, r)) => counted(line, mark, n, r),
+        Ok(Answer::Sends(r)) => request(line, r),
+        Ok(Answer::Waits(r, n)) => waits(line, r, n),
+        Ok(Answer::Completes(c)) => counted(line, mark, c.waiters, c.request),
+        Ok(Answer::Attempt(n)) => line.number(n as u64),
+        Ok(Answer::Accepted) => line.text(okay(mark)),
+        Ok(Answer::Done) => line.text(b"done"),
+        Ok(Answer::Ends(_)) => line.text(b"end"),
     }
 }
 
-pub fn refused(line: Line, x: Refusal) -> Line
+fn refused(line: Line, x: Refusal) -> Line
     ensures { Adds line (ascii "E" ++ number (number_of x)) result }
 {
     line.byte(b'E').number(bidi_write::refusal_number(x))
@@ -85,62 +72,40 @@ fn waits(line: Line, r: Request, n: u64) -> Line
 }
 
 // How a call that is accepted, with no more to say, prints.
-fn okay(mark: Mark) -> Letters
-    ensures { Spells result (form_of mark).okay }
+fn okay(mark: Mark) -> &'static [u8]
+    ensures { result.now ≡ (form_of mark).okay }
 {
     match mark {
-        Mark::Open => Letters(b'o', b'k'),
-        Mark::Append => Letters(b'o', b'k'),
-        Mark::Flush => Letters(b'o', b'k'),
-        Mark::Finalise => Letters(b'o', b'k'),
-        Mark::Close => Letters(b'o', b'k'),
-        Mark::Response => Letters(b'o', b'k'),
-        Mark::Handshake => Letters(b'o', b'k'),
-        Mark::Break => Letters(b'o', b'k'),
-        Mark::Verdict => Letters(b'g', b'o'),
-        Mark::Next => Letters(b'o', b'k'),
-        Mark::SendFailed => Letters(b'o', b'k'),
-        Mark::FailedAttempt => Letters(b'g', b'o'),
+        Mark::Verdict | Mark::FailedAttempt => b"go",
+        _ => b"ok",
     }
 }
 
 // A number, and the request that the call may hand out.
-fn counted(line: Line, mark: Mark, n: usize, r: MaybeRequest) -> Line
+fn counted(line: Line, mark: Mark, n: usize, r: Option<Request>) -> Line
     ensures { (out : Bytes) → maybe_length r ≤ length out → Adds line (T.counted (form_of mark).hands n (maybe_of r out)) result }
 {
     let count = line.number(n as u64);
     if hands(mark) {
-        return or_dash(count.byte(b' '), r);
+        or_dash(count.byte(b' '), r)
+    } else {
+        count
     }
-    count
 }
 
 // A handshake hands out no request.
 fn hands(mark: Mark) -> bool
     ensures { result ≡ (form_of mark).hands }
 {
-    match mark {
-        Mark::Open => true,
-        Mark::Append => true,
-        Mark::Flush => true,
-        Mark::Finalise => true,
-        Mark::Close => true,
-        Mark::Response => true,
-        Mark::Handshake => false,
-        Mark::Break => true,
-        Mark::Verdict => true,
-        Mark::Next => true,
-        Mark::SendFailed => true,
-        Mark::FailedAttempt => true,
-    }
+    !matches!(mark, Mark::Handshake)
 }
 
-fn or_dash(line: Line, r: MaybeRequest) -> Line
+fn or_dash(line: Line, r: Option<Request>) -> Line
     ensures { (out : Bytes) → maybe_length r ≤ length out → Adds line (T.or_dash (maybe_of r out)) result }
 {
     match r {
-        MaybeRequest::Absent => line.byte(b'-'),
-        MaybeRequest::Present(x) => request(line, x),
+        None => line.byte(b'-'),
+        Some(x) => request(line, x),
     }
 }
 
@@ -148,36 +113,32 @@ fn or_dash(line: Line, r: MaybeRequest) -> Line
 fn request(line: Line, r: Request) -> Line
     ensures { (out : Bytes) → length_of r.«data» ≤ length out → Adds line (T.request (request_of r out)) result }
 {
-    let at = r.write_offset;
-    let data = r.data;
-    let place = line.signed(at.0).byte(b':');
-    let size = place.number(data_length(data) as u64).byte(b':');
-    flags(size, r.flush, r.state_lookup, r.finish_write)
+    let sized = line
+        .signed(r.write_offset.0)
+        .byte(b':')
+        .number(data_length(r.data) as u64)
+        .byte(b':');
+    flags(sized, r.flush, r.state_lookup, r.finish_write)
 }
 
-fn data_length(data: Data) -> usize
+fn data_length(data: Option<ChecksummedData>) -> usize
     ensures { result ≡ length_of «data» }
 {
-    match data {
-        Data::Absent => 0,
-        Data::Checksummed(d) => d.length,
-    }
+    data.map_or(0, |d| d.length)
 }
 
 fn flags(line: Line, flush: bool, lookup: bool, finish: bool) -> Line
     ensures { Adds line (T.flags flush lookup finish) result }
 {
-    if bidi_write::either(bidi_write::either(flush, lookup), finish) {
-        return flag(flag(flag(line, flush, b'f'), lookup, b's'), finish, b'w');
+    if flush || lookup || finish {
+        flag(flag(flag(line, flush, b'f'), lookup, b's'), finish, b'w')
+    } else {
+        line.byte(b'-')
     }
-    line.byte(b'-')
 }
 
 fn flag(line: Line, is: bool, letter: u8) -> Line
     ensures { Adds line (T.flag is (letter ∷ [])) result }
 {
-    if is {
-        return line.byte(letter);
-    }
-    line
+    if is { line.byte(letter) } else { line }
 }

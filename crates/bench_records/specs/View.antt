@@ -1,13 +1,13 @@
 -- What the code read, as a record of the format.
-use Rattle.std.specs.Prelude.{ℕ, ◌-◌, ◌≤◌, take, drop}
+use Rattle.std.specs.Prelude.{ℕ, ◌-◌, ◌≤◌, take, drop, Result, Ok, Err, IfOk}
 use Rattle.rules.specs.Message.{Bytes}
 use Rattle.bench_records.specs.Record as R
 use Rattle.bench_records.specs.declared.CallRecord.{CallRecord}
 use Rattle.bench_records.specs.declared.CallRecord.TheVariants as call
 use Rattle.bench_records.specs.declared.Record.{Record}
 use Rattle.bench_records.specs.declared.Record.TheVariants as rec
-use Rattle.bench_records.specs.declared.Reading.{Reading}
-use Rattle.bench_records.specs.declared.Reading.TheVariants as reading
+use Rattle.bench_records.specs.declared.Unread.{Unread}
+use Rattle.bench_records.specs.declared.Unread.TheVariants as unread
 
 -- an append's bytes come beside it
 abbrev pub call_of : CallRecord → Bytes → R.Record
@@ -26,10 +26,10 @@ record_of (rec.Open c capacity p) b = R.OP c capacity p.0
 record_of (rec.Call c) b = call_of c b
 
 -- a record of n bytes, an append's own from byte 4 on
-abbrev pub reading_of : Reading → Bytes → R.Reading
-reading_of (reading.Whole r n) input = R.whole (record_of r (take (n - 4) (drop 4 input))) (drop n input)
-reading_of reading.Cut input = R.cut
-reading_of reading.Unknown input = R.unknown
+abbrev pub reading_of : Result (Record × ℕ) Unread → Bytes → R.Reading
+reading_of (Ok (r, n)) input = R.whole (record_of r (take (n - 4) (drop 4 input))) (drop n input)
+reading_of (Err unread.Cut) input = R.cut
+reading_of (Err unread.Unknown) input = R.unknown
 
 -- how many bytes a record takes, without an append's own
 abbrev pub call_size : CallRecord → ℕ
@@ -48,7 +48,5 @@ record_size (rec.Open c capacity p) = 16
 record_size (rec.Call c) = call_size c
 
 -- the bytes of a record that was read lie in the input
-abbrev pub Within : Reading → ℕ → Type 0
-Within (reading.Whole r n) size = (record_size r ≤ n) × (n ≤ size)
-Within reading.Cut size = Unit {0}
-Within reading.Unknown size = Unit {0}
+abbrev pub Within : Result (Record × ℕ) Unread → ℕ → Type 0
+Within r size = IfOk r (λ p. (record_size p.0 ≤ p.1) × (p.1 ≤ size))

@@ -1,13 +1,14 @@
 // The records that the bench program reads.
 #![tactic(auto)]
 
-ghost use Rattle.std.specs.Prelude.{◌≡◌, ◌+◌, ◌*◌, ◌≤◌, ◌<◌, length, take, drop};
+ghost use Rattle.std.specs.Prelude.{◌≡◌, ◌+◌, ◌*◌, ◌≤◌, ◌<◌, length, take, drop, MatchResult};
 ghost use Rattle.std.specs.Int.{w64};
 ghost use Rattle.std.proofs.Common.{to_z};
 ghost use Rattle.text.specs.Ascii.{ascii};
 ghost use Rattle.little_endian.specs.Little.{little};
 ghost use Rattle.bench_records.specs.Record.{format, after, reading};
 ghost use Rattle.bench_records.specs.View.{reading_of, Within};
+ghost use Rattle.bench_records.specs.declared.Unread.TheVariants as unread;
 
 use bidi_write::{Offset, i64_of};
 
@@ -53,20 +54,13 @@ pub enum Record {
     Call(CallRecord),
 }
 
+// Why no record was read.
 #[derive(Clone, Copy)]
-pub enum Reading {
-    // A record, and how many bytes it takes: an append's own are the last of them, from byte 4 on.
-    Whole(Record, usize),
+pub enum Unread {
     // The input ends inside the record.
     Cut,
     // The first two bytes are no mark.
     Unknown,
-}
-
-fn widened(b: u8) -> u16
-    ensures { (result ≡ b) × (result < 256) }
-{
-    b as u16
 }
 
 // ---- little-endian numbers of their halves
@@ -74,9 +68,7 @@ fn widened(b: u8) -> u16
 pub fn u16_of(low: u8, high: u8) -> u16
     ensures { result ≡ low + 256 * high }
 {
-    let low = widened(low);
-    let high = widened(high);
-    low + 256 * high
+    u16::from_le_bytes([low, high])
 }
 
 pub fn u32_of(low: u16, high: u16) -> u32
@@ -91,21 +83,21 @@ pub fn u64_of(low: u32, high: u32) -> u64
     low as u64 + 0x1_0000_0000 * (high as u64)
 }
 
-fn u16_at(b: &[u8], at: usize) -> u16
+pub fn u16_at(b: &[u8], at: usize) -> u16
     requires { at + 2 ≤ length b.now }
     ensures { result ≡ little (take 2 (drop at b.now)) }
 {
     u16_of(b[at], b[at + 1])
 }
 
-fn u32_at(b: &[u8], at: usize) -> u32
+pub fn u32_at(b: &[u8], at: usize) -> u32
     requires { at + 4 ≤ length b.now }
     ensures { result ≡ little (take 4 (drop at b.now)) }
 {
     u32_of(u16_at(b, at), u16_at(b, at + 2))
 }
 
-fn u64_at(b: &[u8], at: usize) -> u64
+pub fn u64_at(b: &[u8], at: usize) -> u64
     requires { at + 8 ≤ length b.now }
     ensures { result ≡ little (take 8 (drop at b.now)) }
 {
@@ -119,72 +111,73 @@ fn size_at(b: &[u8], at: usize) -> Offset
     Offset(i64_of(u64_at(b, at)))
 }
 
+// An input of fewer than n bytes cuts the record.
+fn reaches(input: &[u8], n: usize) -> Result<(), Unread>
+    ensures { MatchResult result (λ _. n ≤ length input.now) (λ e. (e ≡ unread.Cut) × (length input.now < n)) }
+{
+    if input.len() < n {
+        return Err(Unread::Cut);
+    }
+    Ok(())
+}
+
 // What follows the mark of an opening.
-fn read_open(input: &[u8]) -> Reading
+fn read_open(input: &[u8]) -> Result<(Record, usize), Unread>
     ensures input_value { reading_of result input.now ≡ after format (ascii "OP") (drop 2 input.now) }
     ensures within { Within result (length input.now) }
 {
-    if input.len() < 16 {
-        return Reading::Cut;
-    }
+    reaches(input, 16)?;
     let c = u16_at(input, 2);
     let capacity = u32_at(input, 4);
     let p = size_at(input, 8);
-    Reading::Whole(Record::Open(c as usize, capacity as usize, p), 16)
+    Ok((Record::Open(c as usize, capacity as usize, p), 16))
 }
 
 // What follows the mark of an append.
-fn read_append(input: &[u8]) -> Reading
+fn read_append(input: &[u8]) -> Result<(Record, usize), Unread>
     ensures input_value { reading_of result input.now ≡ after format (ascii "AP") (drop 2 input.now) }
     ensures within { Within result (length input.now) }
 {
-    if input.len() < 4 {
-        return Reading::Cut;
-    }
+    reaches(input, 4)?;
     let n = 4 + u16_at(input, 2) as usize;
-    if input.len() < n {
-        return Reading::Cut;
-    }
-    Reading::Whole(Record::Call(CallRecord::Append), n)
+    reaches(input, n)?;
+    Ok((Record::Call(CallRecord::Append), n))
 }
 
-// The record that an input begins with.
-pub fn read(input: &[u8]) -> Reading
+// A size behind the mark.
+fn read_size(input: &[u8]) -> Result<Offset, Unread>
+    ensures { MatchResult result (λ size. (10 ≤ length input.now) × (size.0 ≡ to_z w64 (little (take 8 (drop 2 input.now))))) (λ e. (e ≡ unread.Cut) × (length input.now < 10)) }
+{
+    reaches(input, 10)?;
+    Ok(size_at(input, 2))
+}
+
+// The record that an input begins with, and how many bytes it takes: an append's own are the last of them, from byte 4 on.
+pub fn read(input: &[u8]) -> Result<(Record, usize), Unread>
     ensures input_value { reading_of result input.now ≡ reading input.now }
     ensures within { Within result (length input.now) }
 {
-    if input.len() < 2 {
-        return Reading::Cut;
-    }
+    reaches(input, 2)?;
     match u16_at(input, 0) {
         OP => read_open(input),
         AP => read_append(input),
-        FL => Reading::Whole(Record::Call(CallRecord::Flush), 2),
-        FI => Reading::Whole(Record::Call(CallRecord::Finalise), 2),
-        CL => Reading::Whole(Record::Call(CallRecord::Close), 2),
+        FL => Ok((Record::Call(CallRecord::Flush), 2)),
+        FI => Ok((Record::Call(CallRecord::Finalise), 2)),
+        CL => Ok((Record::Call(CallRecord::Close), 2)),
         RS => {
-            if input.len() < 10 {
-                return Reading::Cut;
-            }
-            let size = size_at(input, 2);
-            Reading::Whole(Record::Call(CallRecord::Response(size)), 10)
+            let size = read_size(input)?;
+            Ok((Record::Call(CallRecord::Response(size)), 10))
         }
         HS => {
-            if input.len() < 10 {
-                return Reading::Cut;
-            }
-            let size = size_at(input, 2);
-            Reading::Whole(Record::Call(CallRecord::Handshake(size)), 10)
+            let size = read_size(input)?;
+            Ok((Record::Call(CallRecord::Handshake(size)), 10))
         }
-        BR => Reading::Whole(Record::Call(CallRecord::Break), 2),
+        BR => Ok((Record::Call(CallRecord::Break), 2)),
         VE => {
-            if input.len() < 3 {
-                return Reading::Cut;
-            }
-            let verdict = input[2];
-            Reading::Whole(Record::Call(CallRecord::Verdict(verdict)), 3)
+            reaches(input, 3)?;
+            Ok((Record::Call(CallRecord::Verdict(input[2])), 3))
         }
-        NX => Reading::Whole(Record::Call(CallRecord::Next), 2),
-        _ => Reading::Unknown,
+        NX => Ok((Record::Call(CallRecord::Next), 2)),
+        _ => Err(Unread::Unknown),
     }
 }

@@ -10,6 +10,7 @@ use borrow.Author.Tests.{leb-true, leb-false}
 use lib.Dec.{leb}
 use lib.ListN.{length, take, drop, length-take, length-drop}
 use lib.Seq.{length-take-le, take_all, drop-drop, take-add, drop_at}
+use Rattle.std.specs.Prelude.{Result, Ok, Err}
 use Rattle.rules.specs.Message.{Bytes}
 use Rattle.rules.specs.Session.{Session, Call, is_nil}
 use Rattle.rules.proofs.Lists.{cond_ind}
@@ -21,17 +22,21 @@ use Rattle.bench_records.specs.declared.CallRecord.{CallRecord}
 use Rattle.bench_records.specs.declared.CallRecord.TheVariants as call
 use Rattle.bench_records.specs.declared.Record.{Record}
 use Rattle.bench_records.specs.declared.Record.TheVariants as rec
-use Rattle.bench_records.specs.declared.Reading.{Reading}
-use Rattle.bench_records.specs.declared.Reading.TheVariants as reads
+use Rattle.bench_records.specs.declared.Unread.{Unread}
+use Rattle.bench_records.specs.declared.Unread.TheVariants as unread
 use Rattle.bidi_write.specs.declared.Offset.{Offset}
 use Rattle.bench_turns.specs.Turn.{call_of}
 use Rattle.bench_run.specs.Printed.{makes}
 use Rattle.bench_run.specs.Stands.{call_turns, turns, Stands, Ends}
-use Rattle.bench_run.specs.Turn.{Ready, call_at, rest_at, Standing, Found, Goes}
+use Rattle.bench_run.specs.Turn.{call_at, rest_at, Standing, Found, Goes}
 use Rattle.bench_run.specs.declared.turns.Turn.{Turn}
 use Rattle.bench_run.specs.declared.turns.Turn.TheVariants as turn
 use Rattle.bench_run.specs.declared.turns.Next.{Next}
 use Rattle.bench_run.proofs.Standing.{read_call, ends_open, ends-unknown}
+
+-- what a read returns
+abbrev pub Read : Type 0
+Read = Result (Record × ℕ) Unread
 
 abbrev pub next : ℕ → Turn → Next
 next at t = record { at = at; turn = t }
@@ -103,27 +108,21 @@ own-bytes n l = by_test (leb 4 n) refl
 pub ends_at : {input : Bytes} → Ends input → Goes none input input (next 0 turn.End)
 ends_at e = record { inside = omega arith; found = e; stands = λ fed written s h. h; fewer = λ s. omega arith }
 
-pub cut_at : (input : Bytes) → reading input ≡ cut → Goes none input input (next 0 turn.Read)
-cut_at input e = record { inside = omega arith; found = e; stands = λ fed written s h. h; fewer = λ s. omega arith }
+module _ (input : Bytes) {r : Read} (is : reading_of r input ≡ reading input) where
+  read_as : {x : Read} → r ≡ x → reading input ≡ reading_of x input
+  read_as e = sym is ∙ ap (λ (y : Read). reading_of y input) e
 
-module _ (input : Bytes) {r : Reading} (is : reading_of r input ≡ reading input) where
-  read_as : {x : Reading} → r ≡ x → reading input ≡ reading_of x input
-  read_as e = sym is ∙ ap (λ (y : Reading). reading_of y input) e
-
-  pub found_open : {x : Record} {n c k : ℕ} {p : Offset} → r ≡ reads.Whole x n → x ≡ rec.Open c k p → Goes none input input (next 0 turn.End)
+  pub found_open : {x : Record} {n c k : ℕ} {p : Offset} → r ≡ Ok (x, n) → x ≡ rec.Open c k p → Goes none input input (next 0 turn.End)
   found_open {n = n} e f = ends_at (ends_open input (read_as e ∙ ap (λ (x : Record). R.whole (record_of x (take (n - 4) (drop 4 input))) (drop n input)) f) refl)
 
-  pub found_cut : r ≡ reads.Cut → Goes none input input (next 0 turn.Read)
-  found_cut e = cut_at input (read_as e)
-
-  pub found_unknown : r ≡ reads.Unknown → Goes none input input (next 0 turn.End)
+  pub found_unknown : r ≡ Err unread.Unknown → Goes none input input (next 0 turn.End)
   found_unknown e = ends_at (ends-unknown input (read_as e))
 
-  pub found_call : {x : Record} {c : CallRecord} {n : ℕ} {l : Next} → Within r (length input) → r ≡ reads.Whole x n → x ≡ rec.Call c
+  pub found_call : {x : Record} {c : CallRecord} {n : ℕ} {l : Next} → Within r (length input) → r ≡ Ok (x, n) → x ≡ rec.Call c
       → (l.at ≡ min n 4) × (l.turn ≡ turn.Call c (n - min n 4)) → Goes none input input l
   found_call {x} {c} {n} {l} w e f g =
-      let in-it : Within (reads.Whole (rec.Call c) n) (length input)
-      = subst (λ (y : Record). Within (reads.Whole y n) (length input)) f (subst (λ (y : Reading). Within y (length input)) e w) in
+      let in-it : Within (Ok (rec.Call c, n)) (length input)
+      = subst (λ (y : Record). Within (Ok (y, n)) (length input)) f (subst (λ (y : Read). Within y (length input)) e w) in
       goes_as g (placed in-it.0 in-it.1)
     where
       own : Bytes
@@ -150,21 +149,7 @@ module _ (input : Bytes) {r : Reading} (is : reading_of r input ≡ reading inpu
             (omega (arith, turns-left s h k, ap length (behind (min n 4) n input (omega arith))));
       }
 
--- ---- a turn that waited, and the turn after a call
-
-call_at_lem : (c : CallRecord) (n : ℕ) (input : Bytes) → n ≤ length input → Goes (some (call_of c (take n input) 8192)) (drop n input) input (next 0 (turn.Call c n))
-call_at_lem c n input h = record { inside = omega arith; found = h; stands = λ fed written s st. st; fewer = λ s. omega arith }
-
--- the turn t is this one
-pub as_turn : {t u : Turn} {r : Next} (input : Bytes) → t ≡ u → Goes (call_at u input) (rest_at u input) input r → Goes (call_at t input) (rest_at t input) input r
-as_turn {r = r} input e g = subst (λ (x : Turn). Goes (call_at x input) (rest_at x input) input r) (sym e) g
-
-pub waited_call : {t : Turn} {c : CallRecord} {n : ℕ} (input : Bytes) → t ≡ turn.Call c n → Ready t (length input)
-    → Goes (call_at t input) (rest_at t input) input (next 0 (turn.Call c n))
-waited_call {c = c} {n} input e h = as_turn input e (call_at_lem c n input (subst (λ (x : Turn). Ready x (length input)) e h))
-
-pub never_ended {ℓ} : {X : Type ℓ} {t : Turn} (n : ℕ) → t ≡ turn.End → Ready t n → X
-never_ended n e h = absurd (subst (λ (x : Turn). Ready x n) e h)
+-- ---- the turn after a call
 
 pub goes_again : {call : Option Call} (c : CallRecord) (m n : ℕ) (input : Bytes) → m ≤ n → n ≤ length input → some (call_of c (drop m (take n input)) 8192) ≡ call
     → Goes call (drop n input) input (next m (turn.Call c (n - m)))

@@ -1,9 +1,6 @@
 pub mod Progress
 pub mod Standing
 pub mod Going
-pub mod Feeding
 pub mod Playing
 pub mod Opening
 pub mod Whole
-pub mod Shifting
-pub mod Gathering

@@ -1,8 +1,8 @@
 -- A run over the bytes at hand, turn by turn.
 -- Assumes nothing.
 use mathlib.Core.Path.{◌≡◌, refl, sym, ap, ◌∙◌, subst}
-use mathlib.Core.Option.{Option, some}
-use mathlib.Core.List.{List, [], ◌++◌, append_assoc, append-nil}
+use mathlib.Core.Option.{some}
+use mathlib.Core.List.{List, [], ◌++◌, append_assoc}
 use Prim.Native.Nat.{ℕ, ◌+◌, ◌-◌, ◌*◌, ◌≤◌, ◌<◌}
 use native.Mathlib.Omega.{arith}
 use lib.ListN.{length, take, drop, length-take, length-drop}
@@ -11,10 +11,9 @@ use Rattle.rules.specs.Message.{Bytes}
 use Rattle.rules.specs.Session as R
 use Rattle.rules.specs.Step.{step}
 use Rattle.ring.specs.Ring.{ring, part}
-use Rattle.transport.specs.View.{lent_of, view, answer_of, sent_length}
+use Rattle.transport.specs.View.{Left, lent_of, view, answer_of, sent_length}
 use Rattle.transport.specs.Valid.{Valid}
 use Rattle.transport.specs.declared.Session.{Session}
-use Rattle.transport.specs.declared.Outcome.{Outcome}
 use Rattle.bench_records.specs.declared.CallRecord.{CallRecord}
 use Rattle.bench_records.specs.declared.CallRecord.TheVariants as call
 use Rattle.bench_lines.specs.Text.{mark_of, line_of}
@@ -22,7 +21,6 @@ use Rattle.bench_turns.specs.Turn.{call_of, Makes, again, line_for}
 use Rattle.bench_run.specs.Stands.{call_turns, turns, Stands}
 use Rattle.bench_run.specs.Turn.{TurnInside, call_at, rest_at, Standing, Found, Goes}
 use Rattle.bench_run.specs.Gathers.{Gathers}
-use Rattle.bench_run.specs.Run.{Plays}
 use Rattle.bench_run.specs.declared.turns.Turn.{Turn}
 use Rattle.bench_run.specs.declared.turns.Turn.TheVariants as turn
 use Rattle.bench_run.specs.declared.turns.Next.{Next}
@@ -56,30 +54,9 @@ pub record Playing (input store₀ : Bytes) (table₀ : List ℕ) (s₀ : Sessio
 abbrev pub left : Bytes → Bytes → List ℕ → Session → Turn → ℕ → ℕ
 left input store table s t at = turns (call_at t (drop at input)) (rest_at t (drop at input)) (view s store table)
 
-pub starts : {input store : Bytes} {table : List ℕ} {s : Session} {call : Option R.Call} {rest : Bytes} {r : Next} (text : Bytes) → Valid s store table → Goes call rest input r
-    → Playing input store table s r.turn r.at store table text s r.turn r.at 0
-starts {input} {store} {table} {s} {r = r} text v g = record {
-  valid = v;
-  at_in = g.inside;
-  used_in = omega arith;
-  found = g.found;
-  stands = λ fed written h. subst (λ (w : Bytes). Standing fed w r.turn (drop r.at input) (view s store table)) (sym (append-nil written)) h;
-}
-
-pub played : {input store : Bytes} {table : List ℕ} {s : Session} {t : Turn} {store' : Bytes} {table' : List ℕ} {s' : Session} {t' : Turn} {at' used' : ℕ} {text' : Bytes} {r : Next} (text : Bytes)
-    → length text' ≡ length text → Goes (call_at t input) (rest_at t input) input r → Playing input store table s r.turn r.at store' table' text' s' t' at' used'
-    → Plays t input s store table text (record { session = s'; turn = t'; at = at'; used = used' }) store' table' text'
-played {store = store} {table} {s} text e g p = record {
-  valid = p.valid;
-  at_in = p.at_in;
-  used_in = omega (arith, p.used_in);
-  found = p.found;
-  stands = λ fed written h. p.stands fed written (g.stands fed written (view s store table) h);
-}
-
 -- ---- one turn
 
-module _ (input : Bytes) {s : Session} {store : Bytes} {table : List ℕ} {out : Bytes} {r : Outcome} {store' : Bytes} {table' : List ℕ} {out' : Bytes} {t : Turn} {c : CallRecord} {n : ℕ} (at : ℕ)
+module _ (input : Bytes) {s : Session} {store : Bytes} {table : List ℕ} {out : Bytes} {r : Left} {store' : Bytes} {table' : List ℕ} {out' : Bytes} {t : Turn} {c : CallRecord} {n : ℕ} (at : ℕ)
     (v : Valid s store table) (long : length out ≡ 8192) (is : t ≡ turn.Call c n)
     (m : Makes c (take (at + n - at) (drop at input)) s store table out r store' table' out') where
   abbrev own : Bytes
@@ -140,9 +117,3 @@ pub found_inside : (t : Turn) (x : Bytes) {k : ℕ} → length x ≡ k → Found
 found_inside (turn.Call c n) x e f = omega arith
 found_inside turn.Read x e f = tt
 found_inside turn.End x e f = tt
-
--- the bytes of a call lie in the input
-pub own_in : {t : Turn} {c : CallRecord} {n at : ℕ} (input : Bytes) → at ≤ length input → t ≡ turn.Call c n → Found t (drop at input) → at + n ≤ length input
-own_in {n = n} {at} input h e f =
-    let k : n ≤ length (drop at input) = subst (λ (x : Turn). Found x (drop at input)) e f in
-    omega (arith, length-drop at input)

@@ -12,9 +12,8 @@ pub fn put(text: &mut [u8], used: usize, line: Line) -> usize
     requires { used + 96 ≤ length text.old }
     ensures { Gathers text.old used (text_of line) text.new result }
 {
-    let bytes = line.bytes;
     let n = line.end();
-    text[used..used + n].copy_from_slice(&bytes[..n]);
+    text[used..used + n].copy_from_slice(&line.bytes[..n]);
     used + n
 }
 

@@ -11,7 +11,7 @@ ghost use Rattle.transport.specs.Valid.{Valid};
 ghost use Rattle.bench_run.specs.Turn.{TurnInside};
 
 use crate::gather::write;
-use crate::input::{Fed, feed};
+use crate::input::feed;
 use crate::play::{Played, begin, play};
 
 // "Store 32,768 bytes, 64 slots, out buffer 8,192." The input has room for the longest record, of 4 + 65,535 bytes.
@@ -28,12 +28,11 @@ pub fn run(fd: i32) {
     );
 }
 
-// What is printed is written, and bytes are fed. A proved loop has to end, and nothing says that a file does: the turns count down from a number that no run
-// uses up.
+// What is printed is written, and bytes are fed. A proved loop has to end, and nothing says that a file does: no run takes so many turns.
 fn follow(
-    p: Played,
+    mut p: Played,
     fd: i32,
-    end: usize,
+    mut end: usize,
     input: &mut [u8],
     store: &mut [u8],
     table: &mut [u64],
@@ -47,23 +46,16 @@ fn follow(
     requires end_in_bounds { end ≤ length input.old }
     requires turn_inside { TurnInside p.turn (end - p.at) }
 {
-    let mut s = p.session;
-    let mut turn = p.turn;
-    let mut at = p.at;
-    let mut end = end;
-    let mut used = p.used;
-    let mut left = u64::MAX;
-    while left > 0 {
-        left -= 1;
-        write(text, used);
-        let Fed::Bytes(from, to) = feed(fd, turn, input, at, end) else {
+    for _ in 0..u64::MAX {
+        write(text, p.used);
+        let Some((from, to)) = feed(fd, p.turn, input, p.at, end) else {
             return;
         };
-        let q = play(s, turn, &input[from..to], store, table, out, text);
-        s = q.session;
-        turn = q.turn;
-        at = from + q.at;
+        let q = play(p.session, p.turn, &input[from..to], store, table, out, text);
+        p = Played {
+            at: from + q.at,
+            ..q
+        };
         end = to;
-        used = q.used;
     }
 }

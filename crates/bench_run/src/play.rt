@@ -7,9 +7,8 @@ ghost use Rattle.bench_run.specs.Run.{FirstIs, AfterOpening, Begins, Plays};
 
 use crate::gather::put;
 use crate::turns::{Next, Turn, after, found, next_turn, resume};
-use bench_records::{Reading, Record};
-use bidi_write::Offset;
-use openings::OpenAnswer;
+use bench_records::Record;
+use bidi_write::{Offset, Refusal};
 use text::MOST;
 use transport::Session;
 
@@ -24,9 +23,11 @@ pub struct Played {
 
 // An opening with C, capacity and P, of so many bytes.
 #[derive(Clone, Copy)]
-pub enum First {
-    Open(usize, usize, Offset, usize),
-    Nothing,
+pub struct First {
+    pub limit: usize,
+    pub capacity: usize,
+    pub size: Offset,
+    pub taken: usize,
 }
 
 // "Another first record, or a cut or unknown one, ends the run": a session of no chunk limit, which is refused, stands for none.
@@ -35,58 +36,51 @@ pub fn begin(input: &[u8], store: &mut [u8], table: &mut [u64], text: &mut [u8])
     requires in_bounds { 96 ≤ length text.old }
     ensures { Begins input.now text.old result store.new table.new text.new }
 {
-    match first_record(input) {
-        First::Open(limit, capacity, size, n) => {
-            let r = bench_turns::open(limit, capacity, size, store, table);
-            let a = r.answer;
-            let session = r.session;
-            let used = put(text, 0, bench_lines::opening_line(a));
-            let next = opened(a, input, n);
-            let turn = next.turn;
-            Played {
-                session,
-                turn,
-                at: next.at,
-                used,
-            }
-        }
-        First::Nothing => {
-            let r = bench_turns::open(0, 0, Offset(0), store, table);
-            let session = r.session;
-            Played {
-                session,
-                turn: Turn::End,
-                at: 0,
-                used: 0,
-            }
-        }
+    let Some(first) = first_record(input) else {
+        let r = bench_turns::open(0, 0, Offset(0), store, table);
+        return Played {
+            session: r.session,
+            turn: Turn::End,
+            at: 0,
+            used: 0,
+        };
+    };
+    let r = bench_turns::open(first.limit, first.capacity, first.size, store, table);
+    let used = put(text, 0, bench_lines::opening_line(r.answer));
+    let next = opened(r.answer, input, first.taken);
+    Played {
+        session: r.session,
+        turn: next.turn,
+        at: next.at,
+        used,
     }
 }
 
-fn first_record(input: &[u8]) -> First
+fn first_record(input: &[u8]) -> Option<First>
     ensures { FirstIs result input.now }
 {
     match bench_records::read(input) {
-        Reading::Whole(r, n) => match r {
-            Record::Open(limit, capacity, size) => First::Open(limit, capacity, size, n),
-            Record::Call(_) => First::Nothing,
-        },
-        Reading::Cut => First::Nothing,
-        Reading::Unknown => First::Nothing,
+        Ok((Record::Open(limit, capacity, size), taken)) => Some(First {
+            limit,
+            capacity,
+            size,
+            taken,
+        }),
+        Ok((Record::Call(_), _)) => None,
+        Err(_) => None,
     }
 }
 
 // What follows an opening of n bytes: "a refused OP ends the run".
-fn opened(a: OpenAnswer, input: &[u8], n: usize) -> Next
+fn opened(a: Result<(), Refusal>, input: &[u8], n: usize) -> Next
     requires { n ≤ length input.now }
     ensures { AfterOpening a (drop n input.now) input.now result }
 {
     match a {
-        OpenAnswer::Refused(_) => found(n, Turn::End),
-        OpenAnswer::Opened => {
+        Err(_) => found(n, Turn::End),
+        Ok(()) => {
             let next = next_turn(&input[n..]);
-            let turn = next.turn;
-            found(n + next.at, turn)
+            found(n + next.at, next.turn)
         }
     }
 }
@@ -107,32 +101,28 @@ pub fn play(
     ensures { Plays t input.now s store.old table.old text.old result store.new table.new text.new }
 {
     let next = resume(t, input);
-    let mut s = s;
-    let mut turn = next.turn;
-    let mut at = next.at;
-    let mut used = 0;
-    while text.len() - used >= MOST {
-        let Turn::Call(c, n) = turn else {
-            return Played {
-                session: s,
-                turn,
-                at,
-                used,
-            };
-        };
-        let to = at + n;
-        let r = bench_turns::call(s, c, &input[at..to], store, table, out);
-        let a = r.answer;
-        s = r.session;
-        used = put(text, used, bench_turns::line(c, a));
-        let next = after(c, a, &input[at..], n);
-        turn = next.turn;
-        at += next.at;
-    }
-    Played {
+    let mut p = Played {
         session: s,
-        turn,
-        at,
-        used,
+        turn: next.turn,
+        at: next.at,
+        used: 0,
+    };
+    // no index is counted: p tells how far it has come
+    while text.len() - p.used >= MOST {
+        let Turn::Call(c, n) = p.turn else {
+            break;
+        };
+        let data = &input[p.at..p.at + n];
+        let mut session = p.session;
+        let answer = bench_turns::call(&mut session, c, data, store, table, out);
+        let used = put(text, p.used, bench_turns::line(c, answer));
+        let next = after(c, answer, &input[p.at..], n);
+        p = Played {
+            session,
+            turn: next.turn,
+            at: p.at + next.at,
+            used,
+        };
     }
+    p
 }

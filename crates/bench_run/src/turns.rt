@@ -7,8 +7,8 @@ ghost use Rattle.bench_turns.specs.Turn.{call_of, again};
 ghost use Rattle.bench_run.specs.Turn.{Ready, call_at, rest_at, Goes};
 ghost use Rattle.bench_run.specs.declared.turns.Turn.TheVariants as turn;
 
-use bench_records::{CallRecord, Reading, Record};
-use bench_turns::Rest;
+use bench_records::{CallRecord, Record, Unread};
+use bidi_write::Refusal;
 use transport::Answer;
 
 #[derive(Clone, Copy)]
@@ -40,16 +40,15 @@ pub fn resume(t: Turn, input: &[u8]) -> Next
 }
 
 // The same call again, or the next record's. The first n bytes were the call's.
-pub fn after(c: CallRecord, a: Answer, input: &[u8], n: usize) -> Next
+pub fn after(c: CallRecord, a: Result<Answer, Refusal>, input: &[u8], n: usize) -> Next
     requires { n ≤ length input.now }
     ensures { (out : Bytes) → Goes (again (call_of c (take n input.now) 8192) (answer_of a out)) (drop n input.now) input.now result }
 {
     match bench_turns::again(c, a, &input[..n]) {
-        Rest::From(m) => found(m, Turn::Call(c, n - m)),
-        Rest::Nothing => {
+        Some(m) => found(m, Turn::Call(c, n - m)),
+        None => {
             let next = next_turn(&input[n..]);
-            let turn = next.turn;
-            found(n + next.at, turn)
+            found(n + next.at, next.turn)
         }
     }
 }
@@ -59,12 +58,10 @@ pub fn next_turn(input: &[u8]) -> Next
     ensures { Goes none input.now input.now result }
 {
     match bench_records::read(input) {
-        Reading::Whole(r, n) => match r {
-            Record::Open(_, _, _) => found(0, Turn::End),
-            Record::Call(c) => lies(c, n),
-        },
-        Reading::Cut => found(0, Turn::Read),
-        Reading::Unknown => found(0, Turn::End),
+        Ok((Record::Open(_, _, _), _)) => found(0, Turn::End),
+        Ok((Record::Call(c), n)) => lies(c, n),
+        Err(Unread::Cut) => found(0, Turn::Read),
+        Err(Unread::Unknown) => found(0, Turn::End),
     }
 }
 
@@ -72,10 +69,8 @@ pub fn next_turn(input: &[u8]) -> Next
 fn lies(c: CallRecord, n: usize) -> Next
     ensures { (result.at ≡ min n 4) × (result.turn ≡ turn.Call c (n - min n 4)) }
 {
-    if n < 4 {
-        return found(n, Turn::Call(c, 0));
-    }
-    found(4, Turn::Call(c, n - 4))
+    let at = n.min(4);
+    found(at, Turn::Call(c, n - at))
 }
 
 pub fn found(at: usize, turn: Turn) -> Next

@@ -1,21 +1,20 @@
 -- What a record of the bench program makes of the session.
-use Rattle.std.specs.Prelude.{◌≡◌, cond, List, [], ℕ, ◌≤◌, length, drop, ltb, ℤ}
+use Rattle.std.specs.Prelude.{◌≡◌, cond, List, [], ℕ, ◌≤◌, length, drop, ltb, ℤ, Option as Maybe, Some, None, IfSome}
 use Rattle.std.proofs.Math.Option.{Option, none, some}
 use Rattle.rules.specs.Message.{Bytes, end_of_stream}
 use Rattle.rules.specs.Session as R
 use Rattle.rules.specs.Bench.{sized, opening}
-use Rattle.transport.specs.View.{answer_of}
+use Rattle.transport.specs.View.{Left, answer_of}
 use Rattle.transport.specs.Promise.{Promise}
+use Rattle.std.specs.declared.result.Result.{Result}
+use Rattle.bidi_write.specs.declared.Refusal.{Refusal}
 use Rattle.transport.specs.declared.Answer.{Answer}
-use Rattle.transport.specs.declared.Outcome.{Outcome}
 use Rattle.transport.specs.declared.Session.{Session}
 use Rattle.openings.specs.Opening.{OpensAs}
 use Rattle.openings.specs.declared.Opened.{Opened}
 use Rattle.bench_records.specs.declared.CallRecord.{CallRecord}
 use Rattle.bench_records.specs.declared.CallRecord.TheVariants as call
 use Rattle.bench_lines.specs.Text.{mark_of, line_of}
-use Rattle.bench_turns.specs.declared.Rest.{Rest}
-use Rattle.bench_turns.specs.declared.Rest.TheVariants as rest
 
 -- ---- an opening
 
@@ -42,7 +41,7 @@ call_of (call.Verdict v) d out = R.judge v
 call_of call.Next d out = R.next_request out
 
 -- a record's call keeps the promise of the call that it makes
-abbrev pub Makes : CallRecord → Bytes → Session → Bytes → List ℕ → Bytes → Outcome → Bytes → List ℕ → Bytes → Type 0
+abbrev pub Makes : CallRecord → Bytes → Session → Bytes → List ℕ → Bytes → Left → Bytes → List ℕ → Bytes → Type 0
 Makes c d s store table out r store' table' out' = Promise (call_of c d (length out)) s store table out r store' table' out'
 
 -- ---- what is still to be called, and its line
@@ -73,15 +72,16 @@ again (R.break b) a = none
 again (R.judge v) a = none
 again (R.failed_attempt b v) a = none
 
-abbrev pub rest_of : Rest → CallRecord → Bytes → ℕ → Option R.Call
-rest_of (rest.From n) c d out = some (call_of c (drop n d) out)
-rest_of rest.Nothing c d out = none
+-- the call from its byte n on, or none
+abbrev pub rest_of : Maybe ℕ → CallRecord → Bytes → ℕ → Option R.Call
+rest_of (Some n) c d out = some (call_of c (drop n d) out)
+rest_of None c d out = none
 
 -- what the code found to be still called
-pub record Continues (c : CallRecord) (d : Bytes) (a : Answer) (r : Rest) : Type 0 where
+pub record Continues (c : CallRecord) (d : Bytes) (a : Result Answer Refusal) (r : Maybe ℕ) : Type 0 where
   pub rest_is : (n : ℕ) (out : Bytes) → rest_of r c d n ≡ again (call_of c d n) (answer_of a out)
-  pub within : (n : ℕ) → r ≡ rest.From n → n ≤ length d
+  pub within : IfSome r (λ n. n ≤ length d)
 
 -- the line that a record's call prints
-abbrev pub line_for : CallRecord → Answer → Bytes → Bytes
+abbrev pub line_for : CallRecord → Result Answer Refusal → Bytes → Bytes
 line_for c a out = line_of (mark_of (call_of c [] 0)) (answer_of a out)

@@ -3,9 +3,9 @@
 
 ghost use Rattle.std.specs.Prelude.{◌+◌, ◌*◌, ◌≤◌, length};
 
-use bench_records::{u16_of, u32_of};
-use bidi_write::refusal_number;
-use planning::{MAX_ENTRIES, Needs, PlanAnswer, plan};
+use bench_records::u32_at;
+use bidi_write::{Refusal, refusal_number};
+use planning::{MAX_ENTRIES, Needs, plan};
 
 const STDOUT_FILENO: i32 = 1;
 
@@ -40,36 +40,17 @@ fn line(input: &[u8], lengths: &mut [u32])
         );
         return;
     }
-    let n = end / 4 - 1;
-    fill(lengths, n, input);
-    let limit = u32_at(input, 0);
-    print(plan(limit as usize, &lengths[..n]));
-}
-
-// The first n entries of the input.
-fn fill(lengths: &mut [u32], n: usize, input: &[u8])
-    requires n_in_bounds { n ≤ length lengths.old }
-    requires n_in_bounds_2 { 4 + 4 * n ≤ length input.now }
-{
-    let mut i = 0;
-    while i < n {
-        lengths[i] = u32_at(input, 4 + 4 * i);
-        i += 1;
+    let lengths = &mut lengths[..end / 4 - 1];
+    for (i, length) in lengths.iter_mut().enumerate() {
+        *length = u32_at(input, 4 + 4 * i);
     }
+    print(plan(u32_at(input, 0) as usize, lengths));
 }
 
-fn u32_at(input: &[u8], at: usize) -> u32
-    requires { at + 4 ≤ length input.now }
-{
-    let low = u16_of(input[at], input[at + 1]);
-    let high = u16_of(input[at + 2], input[at + 3]);
-    u32_of(low, high)
-}
-
-fn print(answer: PlanAnswer) {
+fn print(answer: Result<Needs, Refusal>) {
     match answer {
-        PlanAnswer::Refused(x) => number(b"E", refusal_number(x)),
-        PlanAnswer::Planned(needs) => print_needs(needs),
+        Err(x) => number(b"E", refusal_number(x)),
+        Ok(needs) => print_needs(needs),
     }
     io::write_all(STDOUT_FILENO, b"\n");
 }

@@ -10,11 +10,9 @@
 // A record that is cut, or that has another flag, ends the run.
 #![tactic(auto)]
 
-ghost use Rattle.std.specs.Prelude.{◌≤◌};
-
-use bench_records::{u16_of, u32_of, u64_of};
-use bidi_write::{Checksum, ChecksummedData, Data, Offset, Request, i64_of, refusal_number};
-use wire::{WriteAnswer, write};
+use bench_records::{u16_at, u32_at, u64_at};
+use bidi_write::{ChecksummedData, Offset, Request, i64_of, refusal_number};
+use wire::write;
 
 const STDIN_FILENO: i32 = 0;
 
@@ -34,19 +32,15 @@ fn main() {
 }
 
 fn fill(data: &mut [u8]) {
-    let mut i = 0;
-    while i < data.len() {
-        data[i] = (i % 251) as u8;
-        i += 1;
+    for (i, b) in data.iter_mut().enumerate() {
+        *b = (i % 251) as u8;
     }
 }
 
 fn run(data: &[u8], buffer: &mut [u8]) {
-    let mut turns = u64::MAX;
-    while turns > 0 {
-        turns -= 1;
+    for _ in 0..u64::MAX {
         if !turn(data, buffer) {
-            return;
+            break;
         }
     }
 }
@@ -58,93 +52,46 @@ fn turn(data: &[u8], buffer: &mut [u8]) -> bool {
     if got < RECORD || r[8] >= 32 {
         return false;
     }
-    let lent = u16_at(&r, 19) as usize;
-    let room = u16_at(&r, 21) as usize;
-    line(request(&r), lend(data, lent), lend_mut(buffer, room));
+    let lent = data.len().min(u16_at(&r, 19) as usize);
+    let room = buffer.len().min(u16_at(&r, 21) as usize);
+    line(request(&r), &data[..lent], &mut buffer[..room]);
     true
 }
 
 fn line(request: Request, data: &[u8], buffer: &mut [u8]) {
-    let answer = write(request, data, buffer);
-    match answer {
-        WriteAnswer::Refused(x) => {
+    match write(request, data, buffer) {
+        Err(x) => {
             io::write_all(STDOUT_FILENO, b"E");
             io::print_decimal(STDOUT_FILENO, refusal_number(x));
         }
-        WriteAnswer::Wrote(n) => {
+        Ok(n) => {
             io::print_decimal(STDOUT_FILENO, n as u64);
             io::write_all(STDOUT_FILENO, b" ");
-            print_bytes(lend(buffer, n));
+            print_bytes(&buffer[..n]);
         }
     }
     io::write_all(STDOUT_FILENO, b"\n");
 }
 
 fn print_bytes(s: &[u8]) {
-    let mut i = 0;
-    while i < s.len() {
-        print_byte(s[i]);
-        i += 1;
+    for &b in s {
+        io::print_hex(STDOUT_FILENO, b as u64, 2);
     }
-}
-
-fn print_byte(b: u8) {
-    io::print_hex(STDOUT_FILENO, b as u64, 2);
-}
-
-// The first n bytes, all where there are no more.
-fn lend(s: &[u8], n: usize) -> &[u8] {
-    if s.len() < n {
-        return s;
-    }
-    &s[0..n]
-}
-
-fn lend_mut(s: &mut [u8], n: usize) -> &mut [u8] {
-    if s.len() < n {
-        return s;
-    }
-    &mut s[0..n]
 }
 
 // ---- the record's request
 
 fn request(r: &[u8; RECORD]) -> Request {
     let flags = r[8];
-    let low = u32_at(r, 0);
-    let high = u32_at(r, 4);
     Request {
-        write_offset: Offset(i64_of(u64_of(low, high))),
-        data: data_of(flags & 8 != 0, u16_at(r, 17) as usize, u32_at(r, 9)),
-        object_checksums: checksum_of(flags & 16 != 0, u32_at(r, 13)),
+        write_offset: Offset(i64_of(u64_at(r, 0))),
+        data: (flags & 8 != 0).then_some(ChecksummedData {
+            length: u16_at(r, 17) as usize,
+            crc32c: u32_at(r, 9),
+        }),
+        object_checksums: (flags & 16 != 0).then_some(u32_at(r, 13)),
         state_lookup: flags & 2 != 0,
         flush: flags & 1 != 0,
         finish_write: flags & 4 != 0,
     }
-}
-
-fn data_of(present: bool, length: usize, crc32c: u32) -> Data {
-    if present {
-        return Data::Checksummed(ChecksummedData { length, crc32c });
-    }
-    Data::Absent
-}
-
-fn checksum_of(present: bool, sum: u32) -> Checksum {
-    if present {
-        return Checksum::Known(sum);
-    }
-    Checksum::Unknown
-}
-
-fn u32_at(r: &[u8; RECORD], at: usize) -> u32
-    requires { at ≤ 19 }
-{
-    u32_of(u16_at(r, at), u16_at(r, at + 2))
-}
-
-fn u16_at(r: &[u8; RECORD], at: usize) -> u16
-    requires { at ≤ 21 }
-{
-    u16_of(r[at], r[at + 1])
 }

@@ -1,17 +1,21 @@
-use borrow.Author.Rules.{rules}
-use mathlib.Core.Path.{◌≡◌, sym}
+use mathlib.Core.Path.{sym}
 use native.Mathlib.Omega.{arith}
-use lib.ListN.{take, drop}
-use Rattle.little_endian.specs.Little.{little}
+use Rattle.std.proofs.lemmas.Result.{err_from_is_err_and}
 use Rattle.bench_records.proofs.Fields.{appended, append-cut}
 use Rattle.bench_records.proofs.read_append.Goals as goal
 
-pub returns-then-input-lt4 : goal.returns-then-input-lt4
-returns-then-input-lt4 c = record { input_value = sym (append-cut c.args.input.now (omega arith)); within = tt }
+pub returns-in_err-reaches-clause-input_value : goal.returns-in_err-reaches-clause-input_value
+returns-in_err-reaches-clause-input_value c =
+    let p = err_from_is_err_and c.from_residual.result c.from_residual.ensures.1 in
+    let e = c.in_err-reaches.ensures in
+    rw (p.1, p.2, e.0) (sym (append-cut c.args.input.now (omega arith)))
 
-pub returns-then-input-n : goal.returns-then-input-n
-returns-then-input-n c = let n : c.u16_at.result ≡ little (take 2 (drop 2 c.args.input.now)) = c.u16_at.ensures in
-    record { input_value = sym (append-cut c.args.input.now (omega arith)); within = tt }
+pub returns-in_err-reaches-2-clause-input_value : goal.returns-in_err-reaches-2-clause-input_value
+returns-in_err-reaches-2-clause-input_value c =
+    let p = err_from_is_err_and c.from_residual-in_err-reaches-2.result c.from_residual-in_err-reaches-2.ensures.1 in
+    let e = c.in_err-reaches-2.ensures in
+    rw (p.1, p.2, e.0) (sym (append-cut c.args.input.now (rw c.u16_at.ensures at e.1)))
 
-pub returns : goal.returns
-returns c = record { input_value = appended c.args.input.now c.u16_at.result (omega arith) c.u16_at.ensures; within = search rules }
+pub returns-clause-input_value : goal.returns-clause-input_value
+returns-clause-input_value c =
+    appended c.args.input.now c.u16_at.result (omega (arith, c.in_ok-reaches-2.ensures)) c.u16_at.ensures

@@ -6,8 +6,5 @@ use Rattle.bench_lines.specs.Text.{flag}
 use Rattle.text.proofs.Clipped.{reworded, same}
 use Rattle.bench_lines.proofs.words.flag.Goals as goal
 
-pub returns-then-is : goal.returns-then-is
-returns-then-is c = reworded (ap (λ (b : Bool). flag b (c.args.letter ∷ [])) (sym c.if-is.true)) c.byte.ensures
-
-pub returns : goal.returns
-returns c = reworded (ap (λ (b : Bool). flag b (c.args.letter ∷ [])) (sym c.if-is.false)) (same c.args.line (search rules))
+pub returns-else-is : goal.returns-else-is
+returns-else-is c = reworded (ap (λ (b : Bool). flag b (c.args.letter ∷ [])) (sym c.if-is.false)) (same c.args.line (search rules))

@@ -1,12 +1,12 @@
+use mathlib.Core.Path.{◌≡◌}
+use mathlib.Core.Bool.{true, ◌||◌}
+use mathlib.Core.Logic.{⊎_elim}
 use Rattle.text.proofs.Clipped.{◌⨟◌, reworded}
-use Rattle.bench_lines.proofs.Parts.{flags_some, flags-none}
+use Rattle.bench_lines.proofs.Parts.{flags_some}
 use Rattle.bench_lines.proofs.words.flags.Goals as goal
 
-pub returns-then-either : goal.returns-then-either
-returns-then-either c =
-    reworded (flags_some c.args.flush c.args.lookup c.args.finish c.either.ensures c.either-2.ensures c.if-either.true)
-    (c.flag.ensures ⨟ c.flag-then-either.ensures ⨟ c.flag-then-either-2.ensures)
-
-pub returns : goal.returns
-returns c =
-    reworded (flags-none c.args.flush c.args.lookup c.args.finish c.either.ensures c.either-2.ensures c.if-either.false) c.byte.ensures
+pub returns-then-finish : goal.returns-then-finish
+returns-then-finish c =
+    let some : (c.args.flush || c.args.lookup || c.args.finish) ≡ true =
+    ⊎_elim (λ e. rw e) (λ t. ⊎_elim (λ e. rw (e.0, e.1)) (λ e. rw (e.0, e.1, e.2)) t) c.if-finish.either in
+    reworded (flags_some c.args.flush c.args.lookup c.args.finish some) (c.flag.ensures ⨟ c.flag-then-finish.ensures ⨟ c.flag-then-finish-2.ensures)

@@ -14,5 +14,5 @@ unfolding request request_of
 returns c =
     λ out h.
     let e : to_z w64 (of_z w64 c.args.r.write_offset.0) ≡ c.args.r.write_offset.0 = search rules in
-    reworded (ap signed e) c.signed.ensures ⨟ c.byte-place.ensures ⨟ reworded (ap number (c.data_length.ensures ∙ data_in_lem c.args.r.«data» out h)) c.number.ensures
-    ⨟ c.byte-size.ensures ⨟ c.flags.ensures
+    reworded (ap signed e) c.signed.ensures ⨟ c.byte.ensures ⨟ reworded (ap number (c.data_length.ensures ∙ data_in_lem c.args.r.«data» out h)) c.number.ensures
+    ⨟ c.byte-sized.ensures ⨟ c.flags.ensures
