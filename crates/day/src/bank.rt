@@ -1,40 +1,49 @@
 // The host: what it knows from answers and messages alone.
-use crate::chance::minus;
-use admission::{CLOSING, CONNECTING, ENDED, LIVE, REPLAY, VERDICT};
-use bidi_write::{Break, Call, Cause, Data, Request};
-use std::num::{wrapping_add_u64, wrapping_add_usize};
+use bidi_write::{Break, Call, Cause, ChecksummedData, Refusal, Request};
 use transport::Answer;
 
 // The tasks of a day are numbered from 1: its events, then finalise, then close.
 pub const EVENTS: u64 = 700;
 
-// What can go wrong, besides a refusal, which has its own number: the session ended too early, the desk waits with nothing on its way, too many calls, the
-// copies leave no room for an event, the bytes released are not those appended.
-pub const ENDED_EARLY: u64 = 101;
-
-pub const STUCK: u64 = 102;
-
-pub const TOO_MANY_CALLS: u64 = 103;
-
-pub const NO_ROOM: u64 = 104;
-
-pub const UNSETTLED: u64 = 105;
-
 // The verdict of a host that never gives up.
 pub const GO_ON: u8 = 1;
 
+// The session's phase.
+#[derive(Clone, Copy, PartialEq)]
+pub enum Phase {
+    Live,
+    Verdict,
+    Connecting,
+    Replay,
+    Closing,
+    Ended,
+}
+
+// What can go wrong.
+#[derive(Clone, Copy)]
+pub enum Trouble {
+    Refused(Refusal),
+    EndedEarly,
+    // the desk waits with nothing on its way
+    Stuck,
+    TooManyCalls,
+    // the copies leave no room for an event
+    NoRoom,
+    // the bytes released are not those appended
+    Unsettled,
+}
+
 #[derive(Clone, Copy)]
 pub struct Bank {
-    // the session's phase, as the answers told it
-    pub phase: u8,
-    // what went wrong; 0: nothing
-    pub trouble: u64,
+    // as the answers told it
+    pub phase: Phase,
+    pub trouble: Option<Trouble>,
     pub task: u64,
     // the event's bytes, and how many of them are taken
     pub length: usize,
-    pub taken: usize,
-    // the number of the waiter that the desk waits on; 0: not made yet
-    pub waiter: u64,
+    taken: usize,
+    // the number of the waiter that the desk waits on, once it is made
+    waiter: Option<u64>,
     pub completed: u64,
     // the largest size stated
     pub stated: u64,
@@ -48,116 +57,97 @@ pub struct Bank {
     pub failed_sends: u64,
 }
 
-pub fn new(trouble: u64) -> Bank {
-    Bank {
-        phase: LIVE,
-        trouble,
-        task: 0,
-        length: 0,
-        taken: 0,
-        waiter: 0,
-        completed: 0,
-        stated: 0,
-        unsent: false,
-        bytes: 0,
-        chunks: 0,
-        own_flushes: 0,
-        again: 0,
-        failed_sends: 0,
-    }
-}
-
 impl Bank {
+    pub fn new(trouble: Option<Trouble>) -> Bank {
+        Bank {
+            phase: Phase::Live,
+            trouble,
+            task: 0,
+            length: 0,
+            taken: 0,
+            waiter: None,
+            completed: 0,
+            stated: 0,
+            unsent: false,
+            bytes: 0,
+            chunks: 0,
+            own_flushes: 0,
+            again: 0,
+            failed_sends: 0,
+        }
+    }
+
     // The next task, of so many bytes.
-    pub fn begin(mut self, length: usize) -> Bank {
-        self.task = wrapping_add_u64(self.task, 1);
+    pub fn begin(&mut self, length: usize) {
+        self.task = self.task.wrapping_add(1);
         self.length = length;
         self.taken = 0;
-        self.waiter = 0;
-        self
+        self.waiter = None;
     }
 
     // What is not yet taken of the event.
-    pub fn left(self) -> usize {
-        if self.length < self.taken {
-            return 0;
-        }
-        self.length - self.taken
+    pub fn left(&self) -> usize {
+        self.length.saturating_sub(self.taken)
     }
 
     // Those that are done.
-    pub fn events(self) -> u64 {
-        if EVENTS < self.task {
-            return EVENTS;
-        }
-        minus(self.task, 1)
+    pub fn events(&self) -> u64 {
+        self.task.saturating_sub(1).min(EVENTS)
     }
 
     // The desk waits for an answer.
-    pub fn waits(self) -> bool {
-        self.completed < self.waiter
+    pub fn waits(&self) -> bool {
+        self.waiter.is_some_and(|n| self.completed < n)
     }
 
     // The desk has its answer.
-    pub fn is_answered(self) -> bool {
-        if self.waiter == 0 {
-            return false;
-        }
-        self.waiter <= self.completed
+    pub fn is_answered(&self) -> bool {
+        self.waiter.is_some_and(|n| n <= self.completed)
     }
 
     // The bytes of events whose desk has its answer.
-    pub fn answered(self) -> u64 {
+    pub fn answered(&self) -> u64 {
         if self.is_answered() {
             return self.bytes;
         }
-        minus(self.bytes, self.taken as u64)
+        self.bytes.saturating_sub(self.taken as u64)
     }
 
     // Whether there is no call to make any more.
-    pub fn is_over(self) -> bool {
-        if self.trouble != 0 {
-            return true;
-        }
-        self.phase == ENDED
+    pub fn is_over(&self) -> bool {
+        self.trouble.is_some() || self.phase == Phase::Ended
     }
 
     // What went wrong today.
-    pub fn verdict(self) -> u64 {
-        if self.trouble != 0 {
-            return self.trouble;
+    pub fn verdict(&self) -> Result<(), Trouble> {
+        match self.trouble {
+            Some(trouble) => Err(trouble),
+            None if self.phase == Phase::Ended => Ok(()),
+            None => Err(Trouble::TooManyCalls),
         }
-        if self.phase != ENDED {
-            return TOO_MANY_CALLS;
-        }
-        0
     }
 
     // A message states this size.
-    pub fn told(mut self, size: u64) -> Bank {
-        if self.stated < size {
-            self.stated = size;
-        }
-        self
+    pub fn told(&mut self, size: u64) {
+        self.stated = self.stated.max(size);
     }
 
     // ---- calls
 
     // The host's own next call.
-    pub fn call(self) -> Call {
+    pub fn call(&self) -> Call {
         if self.unsent {
             return Call::SendFailed;
         }
-        let phase = self.phase;
-        match phase {
-            VERDICT => Call::Judge(GO_ON),
-            REPLAY => Call::NextRequest,
-            CLOSING => Call::Break(Break::EndOfStream),
-            _ => self.work(),
+        match self.phase {
+            Phase::Verdict => Call::Judge(GO_ON),
+            Phase::Replay => Call::NextRequest,
+            Phase::Closing => Call::Break(Break::EndOfStream),
+            Phase::Live | Phase::Connecting | Phase::Ended => self.work(),
         }
     }
 
-    fn work(self) -> Call {
+    fn work(&self) -> Call {
         if self.taken < self.length {
             return Call::Append;
         }
@@ -172,109 +162,76 @@ impl Bank {
 
     // ---- answers
 
-    pub fn heard(mut self, a: Answer) -> Bank {
+    pub fn heard(&mut self, a: Result<Answer, Refusal>) {
         match a {
-            Answer::Refused(x) => {
-                self.trouble = bidi_write::refusal_number(x);
-                self
+            Err(x) => self.trouble = Some(Trouble::Refused(x)),
+            Ok(Answer::Took(n, _)) => {
+                self.taken = self.taken.wrapping_add(n);
+                self.bytes = self.bytes.wrapping_add(n as u64);
             }
-            Answer::Took(n, _) => {
-                self.taken = wrapping_add_usize(self.taken, n);
-                self.bytes = wrapping_add_u64(self.bytes, n as u64);
-                self
-            }
-            Answer::Sends(_) => self,
-            Answer::Waits(_, n) => {
-                self.waiter = n;
-                self
-            }
-            Answer::Completes(c) => self.completing(c.waiters as u64),
-            Answer::Attempt(_) => {
-                self.phase = VERDICT;
-                self
-            }
-            Answer::Accepted => self.accepted(),
-            Answer::Done => {
-                self.phase = LIVE;
-                self
-            }
-            Answer::Ends(e) => {
-                let cause = e.cause;
-                self.ends(cause)
-            },
+            Ok(Answer::Sends(_)) => {}
+            Ok(Answer::Waits(_, n)) => self.waiter = Some(n),
+            Ok(Answer::Completes(c)) => self.completing(c.waiters as u64),
+            Ok(Answer::Attempt(_)) => self.phase = Phase::Verdict,
+            Ok(Answer::Accepted) => self.accepted(),
+            Ok(Answer::Done) => self.phase = Phase::Live,
+            Ok(Answer::Ends(e)) => self.ends(e.cause),
         }
     }
 
     // A handshake leads to a replay.
-    fn completing(mut self, k: u64) -> Bank {
-        self.completed = wrapping_add_u64(self.completed, k);
-        if self.phase == CONNECTING {
-            self.phase = REPLAY;
+    fn completing(&mut self, k: u64) {
+        self.completed = self.completed.wrapping_add(k);
+        if self.phase == Phase::Connecting {
+            self.phase = Phase::Replay;
         }
-        self
     }
 
     // A failed send ends a replay; close leads to closing, a verdict to connecting, where a failed attempt stays.
-    fn accepted(mut self) -> Bank {
+    fn accepted(&mut self) {
         if self.unsent {
             self.unsent = false;
-            self.phase = LIVE;
-            return self;
+            self.phase = Phase::Live;
+        } else if self.phase == Phase::Live {
+            self.phase = Phase::Closing;
+        } else {
+            self.phase = Phase::Connecting;
         }
-        if self.phase == LIVE {
-            self.phase = CLOSING;
-            return self;
-        }
-        self.phase = CONNECTING;
-        self
     }
 
     // Only a session whose object is finalised ends, and as finished.
-    fn ends(mut self, cause: Cause) -> Bank {
-        self.trouble = ENDED_EARLY;
-        if let Cause::Finished = cause {
-            if EVENTS + 1 < self.task {
-                self.trouble = 0;
-            }
-        }
-        self.phase = ENDED;
-        self
+    fn ends(&mut self, cause: Cause) {
+        self.trouble = match cause {
+            Cause::Finished if EVENTS + 1 < self.task => None,
+            _ => Some(Trouble::EndedEarly),
+        };
+        self.phase = Phase::Ended;
     }
 
     // ---- requests
 
-    pub fn sends(mut self, r: Request, unsent: bool) -> Bank {
-        let data = r.data;
-        let n = length(data);
+    pub fn sends(&mut self, r: Request, unsent: bool) {
+        let n = length(r.data);
         self.unsent = unsent;
-        if unsent {
-            self.failed_sends = wrapping_add_u64(self.failed_sends, 1);
+        self.failed_sends = self.failed_sends.wrapping_add(u64::from(unsent));
+        if self.phase == Phase::Replay {
+            self.again = self.again.wrapping_add(n);
+        } else {
+            self.counts(n, r.flush);
         }
-        if self.phase == REPLAY {
-            self.again = wrapping_add_u64(self.again, n);
-            return self;
-        }
-        self.counts(n, r.flush)
     }
 
     // A request with data is a chunk; a flush that nobody waits for is the session's own.
-    fn counts(mut self, n: u64, flush: bool) -> Bank {
-        if n != 0 {
-            self.chunks = wrapping_add_u64(self.chunks, 1);
-        }
-        if self.waiter != 0 {
-            return self;
-        }
-        if flush {
-            self.own_flushes = wrapping_add_u64(self.own_flushes, 1);
-        }
-        self
+    fn counts(&mut self, n: u64, flush: bool) {
+        let own = flush && self.waiter.is_none();
+        self.chunks = self.chunks.wrapping_add(u64::from(n != 0));
+        self.own_flushes = self.own_flushes.wrapping_add(u64::from(own));
     }
 }
 
-fn length(d: Data) -> u64 {
+fn length(d: Option<ChecksummedData>) -> u64 {
     match d {
-        Data::Absent => 0,
-        Data::Checksummed(c) => c.length as u64,
+        None => 0,
+        Some(c) => c.length as u64,
     }
 }

@@ -1,9 +1,8 @@
 // What is left to chance, drawn from the seed: the same key and place give the same number.
-use std::num::wrapping_add_u64;
 
 // The key of the next turn.
 pub fn next(key: u64) -> u64 {
-    wrapping_add_u64(key, 0x9E37_79B9_7F4A_7C15)
+    key.wrapping_add(0x9E37_79B9_7F4A_7C15)
 }
 
 // A number below n; 0 where n is 0.
@@ -11,7 +10,7 @@ pub fn draw(key: u64, place: u64, n: u64) -> u64 {
     if n == 0 {
         return 0;
     }
-    mix(wrapping_add_u64(key, place)) % n
+    mix(key.wrapping_add(place)) % n
 }
 
 pub fn one_in(key: u64, place: u64, n: u64) -> bool {
@@ -23,14 +22,14 @@ pub fn part(key: u64, place: u64, n: u64) -> u64 {
     match draw(key, place, 4) {
         0 => 0,
         1 => n,
-        _ => draw(key, wrapping_add_u64(place, 1), wrapping_add_u64(n, 1)),
+        _ => draw(key, place.wrapping_add(1), n.wrapping_add(1)),
     }
 }
 
 // n in most cases. Takes three places.
 pub fn part_or_all(key: u64, place: u64, n: u64) -> u64 {
     if one_in(key, place, 4) {
-        return part(key, wrapping_add_u64(place, 1), n);
+        return part(key, place.wrapping_add(1), n);
     }
     n
 }
@@ -42,12 +41,4 @@ fn mix(x: u64) -> u64 {
     let c = b ^ (b >> 13);
     let d = (c % 4294967296) * 0xC2B2_AE35;
     (d ^ (d >> 16)) % 4294967296
-}
-
-// a - b, and 0 where b is the larger.
-pub fn minus(a: u64, b: u64) -> u64 {
-    if a < b {
-        return 0;
-    }
-    a - b
 }

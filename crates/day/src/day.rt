@@ -1,12 +1,9 @@
 // A day: open, and then call after call until the session has ended. Here alone is the session.
-ghost use Rattle.std.specs.Prelude.{◌≤◌};
-
-use crate::server::{RESOURCE, Said};
+use crate::message;
+use crate::server::Said;
 use crate::world::World;
-use crate::{copies, message, world};
-use bidi_write::{Checksum, Generation, Offset};
-use openings::{Capacity, Opened, Opening};
-use state::Condition;
+use bidi_write::{Generation, Offset};
+use openings::{Opened, Opening};
 
 // An event is one to three chunks; one of three reaches the watermark, 8,192 bytes.
 const LIMIT: usize = 4096;
@@ -23,57 +20,36 @@ pub fn run(seed: u64, breaks: u64) -> World {
     let mut table = [0u64; 64];
     let mut out = [0u8; 4096];
     let mut message = [0u8; 4135];
-    let mut copies = [0u8; 32768];
     let mut event = [0u8; 9000];
     let opened = open(&mut store, &mut table);
     let mut s = opened.session;
-    let answer = opened.answer;
-    let mut w = world::new(seed, breaks, answer, opened.released, &mut copies);
-    let mut calls = MOST_CALLS;
-    while 0 < calls {
-        let next = world::next(w, &mut copies);
-        let call = next.call;
-        w = next.world;
-        let n = copies::read(&copies, w.bank.bytes, w.bank.left(), &mut event);
-        let data = &event[..n];
-        let whole = w.link.redirects % 2 == 0;
-        let detail = message::either(whole, &message::DETAIL, &message::DETAIL_IN_PARTS);
-        let bytes = message::beside(call, data, &message::HANDLE, detail);
-        let r = steps::step(s, call, &mut store, &mut table, &mut out, bytes);
-        s = r.session;
-        let answer = r.answer;
-        w = world::heard(w, answer, &out, &mut message, &mut copies);
-        calls = calls_left(w, calls - 1);
+    let mut w = World::new(seed, breaks, opened.answer, opened.released);
+    for _ in 0..MOST_CALLS {
+        let call = w.next();
+        let data = w.copies.read(w.bank.bytes, w.bank.left(), &mut event);
+        let bytes = message::beside(call, data, w.link.redirects);
+        let answer = steps::step(&mut s, call, &mut store, &mut table, &mut out, bytes);
+        w.heard(answer, &out, &mut message);
+        if w.bank.is_over() {
+            break;
+        }
     }
     w
-}
-
-// None where the day is over.
-fn calls_left(w: World, calls: u64) -> u64
-    ensures { result ≤ calls }
-{
-    if w.bank.is_over() {
-        return 0;
-    }
-    calls
 }
 
 // A new object, which the response names.
 fn open(store: &mut [u8], table: &mut [u64]) -> Opened {
     let o = Opening {
         limit: LIMIT,
-        capacity: Capacity::Asked(CAPACITY),
+        capacity: Some(CAPACITY),
         append: false,
         generation: Generation(0),
         has_write_handle: false,
         has_routing_token: false,
-        if_metageneration_match: Condition::Absent,
-        if_metageneration_not_match: Condition::Absent,
-        response: message::response(Said {
-            kind: RESOURCE,
-            size: 0,
-        }),
-        checksum: Checksum::Unknown,
+        if_metageneration_match: None,
+        if_metageneration_not_match: None,
+        response: message::response(Said::Resource(0)),
+        checksum: None,
         has_payload: false,
         last_persisted_size: Offset(0),
     };

@@ -1,6 +1,6 @@
 // The server's messages and the link's breaks, as the session is told of them.
-use crate::link::{ABORTED, END, ERROR, REROUTED, STATUS};
-use crate::server::{NOTHING, RESOURCE, SIZE, Said};
+use crate::link::Look;
+use crate::server::Said;
 use bidi_write::{
     Break, Call, Detail, Generation, Offset, Resource, Response, Status, WriteStatus,
 };
@@ -17,50 +17,47 @@ pub const HANDLE: [u8; 6] = *b"handle";
 
 // The value of a redirect's detail, as two servers write it: token `token`, the handle, the generation. The second has an unknown field first, writes the
 // generation before the rest, the token twice, and the handle in two messages, of which the last has an unknown field alone.
-pub const DETAIL: [u8; 19] = *b"\x0a\x05token\x12\x08\x0a\x06handle\x18\x07";
+const DETAIL: [u8; 19] = *b"\x0a\x05token\x12\x08\x0a\x06handle\x18\x07";
 
-pub const DETAIL_IN_PARTS: [u8; 33] =
+const DETAIL_IN_PARTS: [u8; 33] =
     *b"\x22\x03new\x18\x07\x12\x08\x0a\x06handle\x0a\x03old\x12\x02\x10\x01\x0a\x05token";
 
-pub fn response(m: Said) -> Response {
+pub fn response(said: Said) -> Response {
     Response {
-        write_status: write_status(m.kind, offset(m.size)),
-        has_write_handle: m.kind != SIZE,
+        write_status: write_status(said),
+        has_write_handle: !matches!(said, Said::Size(_)),
     }
 }
 
-fn write_status(kind: u8, size: Offset) -> WriteStatus {
-    match kind {
-        NOTHING => WriteStatus::Absent,
-        SIZE => WriteStatus::PersistedSize(size),
-        RESOURCE => resource(size, false),
-        _ => resource(size, true),
+fn write_status(said: Said) -> Option<WriteStatus> {
+    match said {
+        Said::Nothing => None,
+        Said::Size(size) => Some(WriteStatus::PersistedSize(offset(size))),
+        Said::Resource(size) => resource(size, false),
+        Said::Finalised(size) => resource(size, true),
     }
 }
 
 fn offset(n: u64) -> Offset {
-    if n < 0x8000_0000_0000_0000 {
-        return bidi_write::from_nat(n);
-    }
-    Offset(i64::MAX)
+    Offset(i64::try_from(n).unwrap_or(i64::MAX))
 }
 
-fn resource(size: Offset, finalized: bool) -> WriteStatus {
-    WriteStatus::Resource(Resource {
-        size,
+fn resource(size: u64, finalized: bool) -> Option<WriteStatus> {
+    Some(WriteStatus::Resource(Resource {
+        size: offset(size),
         generation: Generation(GENERATION),
         finalized,
-    })
+    }))
 }
 
-pub fn stream_break(kind: u64) -> Break {
-    match kind {
-        END => Break::EndOfStream,
-        ERROR => Break::Error,
-        STATUS => status(UNAVAILABLE_CODE, Detail::Absent),
-        ABORTED => status(ABORTED_CODE, Detail::Absent),
-        REROUTED => status(UNAVAILABLE_CODE, Detail::Redirect),
-        _ => status(ABORTED_CODE, Detail::Redirect),
+pub fn stream_break(look: Look) -> Break {
+    match look {
+        Look::EndOfStream => Break::EndOfStream,
+        Look::Error => Break::Error,
+        Look::Status => status(UNAVAILABLE_CODE, Detail::Absent),
+        Look::Aborted => status(ABORTED_CODE, Detail::Absent),
+        Look::Rerouted => status(UNAVAILABLE_CODE, Detail::Redirect),
+        Look::Redirect => status(ABORTED_CODE, Detail::Redirect),
     }
 }
 
@@ -68,20 +65,12 @@ fn status(code: u32, detail: Detail) -> Break {
     Break::Status(Status { code, detail })
 }
 
-// The bytes that a call brings.
-pub fn beside<'a>(call: Call, data: &'a [u8], handle: &'a [u8], detail: &'a [u8]) -> &'a [u8] {
+// The bytes that a call brings: an append's, the handle, or the value of the detail that comes behind so many redirects.
+pub fn beside(call: Call, data: &[u8], redirects: u64) -> &[u8] {
     match call {
         Call::Append => data,
-        Call::Response(_) => handle,
-        Call::Handshake(_) => handle,
-        _ => detail,
+        Call::Response(_) | Call::Handshake(_) => &HANDLE,
+        _ if redirects % 2 == 0 => &DETAIL,
+        _ => &DETAIL_IN_PARTS,
     }
-}
-
-// One of two details.
-pub fn either<'a>(first: bool, a: &'a [u8], b: &'a [u8]) -> &'a [u8] {
-    if first {
-        return a;
-    }
-    b
 }

@@ -1,7 +1,8 @@
 // What a person reads.
-use crate::bank::{ENDED_EARLY, EVENTS, NO_ROOM, STUCK, TOO_MANY_CALLS, UNSETTLED};
-use crate::link::{ABORTED, ANSWER, CHUNK, END, ERROR, FINISH, FLUSH, REROUTED, STATUS};
+use crate::bank::{EVENTS, Trouble};
+use crate::link::{Look, Lost};
 use crate::tally::Tally;
+use bidi_write::refusal_number;
 
 const STDOUT_FILENO: i32 = 1;
 
@@ -50,20 +51,16 @@ pub fn progress(event: u64, persisted: u64, breaks: u64) {
 }
 
 // A break's line begins where it falls, with what did not arrive.
-pub fn falls(event: u64, n: u64, what: u64) {
+pub fn falls(event: u64, n: u64, lost: Lost) {
     time(event);
     text(b"break ");
     number(n);
-    lost(what);
-}
-
-fn lost(what: u64) {
-    match what {
-        CHUNK => text(b": a chunk lost"),
-        FLUSH => text(b": a flush lost"),
-        FINISH => text(b": a finish lost"),
-        ANSWER => text(b": an answer lost"),
-        _ => text(b": a handshake lost"),
+    match lost {
+        Lost::Chunk => text(b": a chunk lost"),
+        Lost::Flush => text(b": a flush lost"),
+        Lost::Finish => text(b": a finish lost"),
+        Lost::Answer => text(b": an answer lost"),
+        Lost::Handshake => text(b": a handshake lost"),
     }
 }
 
@@ -78,32 +75,28 @@ pub fn how(unsent: bool, again: bool) {
 }
 
 // It ends where the host sees it.
-pub fn seen(lost: u64, kind: u64) {
+pub fn seen(lost: u64, look: Look) {
     text(b", ");
     counted(lost, b" bytes of the tail lost, ");
-    error(kind);
-}
-
-fn error(kind: u64) {
-    match kind {
-        END => text(b"end of stream\n"),
-        ERROR => text(b"error\n"),
-        STATUS => text(b"status\n"),
-        ABORTED => text(b"aborted\n"),
-        REROUTED => text(b"status with a route\n"),
-        _ => text(b"redirect\n"),
+    match look {
+        Look::EndOfStream => text(b"end of stream\n"),
+        Look::Error => text(b"error\n"),
+        Look::Status => text(b"status\n"),
+        Look::Aborted => text(b"aborted\n"),
+        Look::Rerouted => text(b"status with a route\n"),
+        Look::Redirect => text(b"redirect\n"),
     }
 }
 
 // ---- the figures
 
-pub fn figures(t: Tally) {
+pub fn figures(t: &Tally) {
     work(t);
     link(t);
     faults(t);
 }
 
-fn work(t: Tally) {
+fn work(t: &Tally) {
     figure(b"events", t.events);
     figure(b"bytes", t.bytes);
     figure(b"chunks", t.chunks);
@@ -113,7 +106,7 @@ fn work(t: Tally) {
     figure(b"dropped before the desk had its answer", t.unanswered);
 }
 
-fn link(t: Tally) {
+fn link(t: &Tally) {
     figure(b"bytes of messages", t.messages);
     figure(b"their CRC32C", t.sum as u64);
     figure(b"breaks", t.breaks);
@@ -123,7 +116,7 @@ fn link(t: Tally) {
     figure(b"bytes sent again", t.again);
 }
 
-fn faults(t: Tally) {
+fn faults(t: &Tally) {
     figure(b"bytes lost", t.lost);
     figure(b"bytes doubled", t.doubled);
     figure(b"bytes out of place", t.misplaced);
@@ -151,14 +144,13 @@ pub fn outcome(right: bool) {
 
 // ---- what went wrong
 
-pub fn trouble(n: u64) {
-    match n {
-        0 => {}
-        ENDED_EARLY => text(b"the session ended too early\n"),
-        STUCK => text(b"the desk waits, and nothing is on its way\n"),
-        TOO_MANY_CALLS => text(b"too many calls\n"),
-        NO_ROOM => text(b"the copies leave no room for an event\n"),
-        UNSETTLED => text(b"the bytes released are not those appended\n"),
-        _ => figure(b"a call was refused, number", n),
+pub fn trouble(t: Trouble) {
+    match t {
+        Trouble::Refused(x) => figure(b"a call was refused, number", refusal_number(x)),
+        Trouble::EndedEarly => text(b"the session ended too early\n"),
+        Trouble::Stuck => text(b"the desk waits, and nothing is on its way\n"),
+        Trouble::TooManyCalls => text(b"too many calls\n"),
+        Trouble::NoRoom => text(b"the copies leave no room for an event\n"),
+        Trouble::Unsettled => text(b"the bytes released are not those appended\n"),
     }
 }

@@ -3,44 +3,44 @@
 ghost use Rattle.std.specs.Prelude.{◌≤◌, length};
 ghost use Rattle.bidi_write.specs.View.{length_of};
 
-use crate::chance::minus;
 use crate::{chance, journal};
-use bidi_write::{Checksum, ChecksummedData, Data, Request};
-use std::num::wrapping_add_u64;
+use bidi_write::{ChecksummedData, Request};
 
 // What a message states: nothing, a size, a size in a resource, or one that is finalised.
-pub const NOTHING: u8 = 0;
-
-pub const SIZE: u8 = 1;
-
-pub const RESOURCE: u8 = 2;
-
-pub const FINALISED: u8 = 3;
-
 #[derive(Clone, Copy)]
-pub struct Said {
-    pub kind: u8,
-    pub size: u64,
+pub enum Said {
+    Nothing,
+    Size(u64),
+    Resource(u64),
+    Finalised(u64),
+}
+
+impl Said {
+    pub fn size(self) -> u64 {
+        match self {
+            Said::Nothing => 0,
+            Said::Size(n) | Said::Resource(n) | Said::Finalised(n) => n,
+        }
+    }
 }
 
 #[derive(Clone, Copy)]
 pub struct Server {
     // the key of the journal that the bytes must be of
-    pub journal: u64,
+    journal: u64,
     // "The server holds persisted bytes (the object) and a tail."
     pub persisted: u64,
-    pub tail: u64,
+    tail: u64,
     // of the persisted bytes
-    pub sum: u32,
-    pub finalised: bool,
+    sum: u32,
+    finalised: bool,
     // a flush was asked for, and no message has yet said that all is persisted
-    pub owes: bool,
+    owes: bool,
     // the connection is not cut; every request on it has arrived
     pub alive: bool,
     pub lossless: bool,
-    // whether a message is on its way to the host, and which
-    pub full: bool,
-    pub message: Said,
+    // on its way to the host
+    pub message: Option<Said>,
     // bytes of the tail that the last cut lost
     pub lost: u64,
     // bytes that joined the tail and are not the journal's at their offset; connections cut for a request though they had lost nothing
@@ -48,228 +48,178 @@ pub struct Server {
     pub cut_off: u64,
 }
 
-pub fn new(journal: u64) -> Server {
-    Server {
-        journal,
-        persisted: 0,
-        tail: 0,
-        sum: 0,
-        finalised: false,
-        owes: false,
-        alive: true,
-        lossless: true,
-        full: false,
-        message: empty(),
-        lost: 0,
-        misplaced: 0,
-        cut_off: 0,
-    }
-}
-
 impl Server {
+    pub fn new(journal: u64) -> Server {
+        Server {
+            journal,
+            persisted: 0,
+            tail: 0,
+            sum: 0,
+            finalised: false,
+            owes: false,
+            alive: true,
+            lossless: true,
+            message: None,
+            lost: 0,
+            misplaced: 0,
+            cut_off: 0,
+        }
+    }
+
     // ---- a request is taken
 
-    pub fn take(self, r: Request, out: &[u8], key: u64) -> Server
+    pub fn take(&mut self, r: Request, out: &[u8], key: u64)
         requires { length_of r.«data» ≤ length out.now }
     {
-        let at = r.write_offset;
-        let sum = r.object_checksums;
-        let data = r.data;
-        match data {
-            Data::Absent => self.take_bare(r.finish_write, bidi_write::to_nat(at), sum, key),
-            Data::Checksummed(c) => self.take_chunk(c, bidi_write::to_nat(at), r.flush, out, key),
+        let at = bidi_write::to_nat(r.write_offset);
+        match r.data {
+            None => self.take_bare(r.finish_write, at, r.object_checksums, key),
+            Some(c) => self.take_chunk(c, at, r.flush, out, key),
         }
     }
 
     // "A chunk joins the tail if its offset is the end of both and its sum is right, else the connection is cut."
-    fn take_chunk(self, c: ChecksummedData, at: u64, flush: bool, out: &[u8], key: u64) -> Server
+    fn take_chunk(&mut self, c: ChecksummedData, at: u64, flush: bool, out: &[u8], key: u64)
         requires { c.length ≤ length out.now }
     {
-        let n = c.length;
-        let bytes = &out[..n];
-        if !self.continues(at, bytes, c.crc32c) {
-            return self.cuts(key);
+        let bytes = &out[..c.length];
+        if at != self.end() || c.crc32c != crc32c::crc32c(bytes) {
+            self.cuts(key);
+            return;
         }
-        let v = self.joined(bytes);
+        let wrong = journal::wrong(bytes, self.journal, at);
+        self.misplaced = self.misplaced.wrapping_add(wrong);
+        self.tail = self.tail.wrapping_add(bytes.len() as u64);
         if flush {
-            return v.flush(key);
+            self.flush(key);
         }
-        v
-    }
-
-    fn continues(self, at: u64, bytes: &[u8], sum: u32) -> bool {
-        if at != self.end() {
-            return false;
-        }
-        crc32c::crc32c(bytes) == sum
-    }
-
-    fn joined(mut self, bytes: &[u8]) -> Server {
-        let wrong = journal::wrong(bytes, self.journal, self.end());
-        self.tail = wrapping_add_u64(self.tail, bytes.len() as u64);
-        self.misplaced = wrapping_add_u64(self.misplaced, wrong);
-        self
     }
 
     // "A request without data has its offset checked only with finish."
-    fn take_bare(self, finishes: bool, at: u64, sum: Checksum, key: u64) -> Server {
+    fn take_bare(&mut self, finishes: bool, at: u64, sum: Option<u32>, key: u64) {
         if finishes {
-            return self.finish(at, sum, key);
+            self.finish(at, sum, key);
+        } else {
+            self.flush(key);
         }
-        self.flush(key)
     }
 
-    fn end(self) -> u64 {
-        wrapping_add_u64(self.persisted, self.tail)
+    fn end(&self) -> u64 {
+        self.persisted.wrapping_add(self.tail)
     }
 
     // A flush persists any front of the tail, mostly all of it, and is answered.
-    fn flush(self, key: u64) -> Server {
-        let n = chance::part_or_all(key, 1, self.tail);
-        let mut v = self.persist(n);
-        v.owes = true;
-        v.answer(key)
+    fn flush(&mut self, key: u64) {
+        self.persist(chance::part_or_all(key, 1, self.tail));
+        self.owes = true;
+        self.answer(key);
     }
 
     // "finish, which persists all and finalises if offset and a given sum are right, else cuts"
-    fn finish(self, at: u64, sum: Checksum, key: u64) -> Server {
-        if at != self.end() {
-            return self.cuts(key);
+    fn finish(&mut self, at: u64, sum: Option<u32>, key: u64) {
+        if at != self.end() || !is_right(sum, self.sum_with(self.tail)) {
+            self.cuts(key);
+            return;
         }
-        let mut v = self.persist(self.tail);
-        if !is_right(sum, v.sum) {
-            return self.cuts(key);
-        }
-        v.finalised = true;
-        v.owes = true;
-        v.answer(key)
+        self.persist(self.tail);
+        self.finalised = true;
+        self.owes = true;
+        self.answer(key);
     }
 
     // "Any front part of the tail may become persisted": n bytes of it.
-    fn persist(mut self, n: u64) -> Server {
-        self.sum = journal::sum_on(self.sum, self.journal, self.persisted, n);
-        self.persisted = wrapping_add_u64(self.persisted, n);
-        self.tail = minus(self.tail, n);
-        self
+    fn persist(&mut self, n: u64) {
+        self.sum = self.sum_with(n);
+        self.persisted = self.persisted.wrapping_add(n);
+        self.tail = self.tail.saturating_sub(n);
+    }
+
+    // The sum of the persisted bytes and n of the tail.
+    fn sum_with(&self, n: u64) -> u32 {
+        journal::sum_on(self.sum, self.journal, self.persisted, n)
     }
 
     // ---- messages
 
     // Between two calls of the host the server may persist some of the tail, answers what it owes, and now and then says something unasked. While the
     // desk waits it finishes what it was asked.
-    pub fn serve(mut self, waits: bool, key: u64) -> Server {
-        if !self.alive {
-            return self;
-        }
-        if self.full {
-            return self;
+    pub fn serve(&mut self, waits: bool, key: u64) {
+        if !self.alive || self.message.is_some() {
+            return;
         }
         if waits {
-            return self.persist(self.tail).answer(key);
+            self.persist(self.tail);
+        } else if chance::one_in(key, 4, 8) {
+            self.message = Some(Said::Nothing);
+        } else if chance::one_in(key, 5, 8) {
+            self.persist(chance::part(key, 6, self.tail));
         }
-        if chance::one_in(key, 4, 8) {
-            self.full = true;
-            self.message = empty();
-            return self;
-        }
-        if chance::one_in(key, 5, 8) {
-            return self.persist(chance::part(key, 6, self.tail)).answer(key);
-        }
-        self.answer(key)
+        self.answer(key);
     }
 
-    fn answer(mut self, key: u64) -> Server {
-        if self.full {
-            return self;
+    fn answer(&mut self, key: u64) {
+        if self.message.is_none() && self.owes {
+            self.message = Some(self.says(key));
+            self.owes = self.tail != 0;
         }
-        if !self.owes {
-            return self;
-        }
-        let m = self.says(key);
-        self.message = m;
-        self.full = true;
-        self.owes = self.tail != 0;
-        self
     }
 
     // ---- the connection
 
     // A cut "loses every message not yet taken and any end of the tail, from none of it to all, but no persisted byte"; what it leaves of the tail is
     // persisted by the next connection.
-    pub fn cut(self, key: u64) -> Server {
+    pub fn cut(&mut self, key: u64) {
         if !self.alive {
-            return self;
+            return;
         }
-        let mut v = self.persist(chance::part(key, 8, self.tail));
-        v.lost = v.tail;
-        v.tail = 0;
-        v.owes = false;
-        v.full = false;
-        v.alive = false;
-        v.lossless = false;
-        v
+        self.persist(chance::part(key, 8, self.tail));
+        self.lost = self.tail;
+        self.tail = 0;
+        self.owes = false;
+        self.message = None;
+        self.alive = false;
+        self.lossless = false;
     }
 
     // A request did not arrive: the connection is cut, or yet carries what comes next.
-    pub fn breaks(mut self, carries: bool, key: u64) -> Server {
+    pub fn breaks(&mut self, carries: bool, key: u64) {
         if carries {
             self.lossless = false;
-            return self;
+        } else {
+            self.cut(key);
         }
-        self.cut(key)
     }
 
     // The server cuts the connection for a request: none that the host sends on one that lost nothing.
-    fn cuts(self, key: u64) -> Server {
-        let mut v = self.cut(key);
-        if self.lossless {
-            v.cut_off = wrapping_add_u64(v.cut_off, 1);
+    fn cuts(&mut self, key: u64) {
+        self.cut_off = self.cut_off.wrapping_add(u64::from(self.lossless));
+        self.cut(key);
+    }
+
+    // An accepted handshake begins the next connection. It may leave unsaid that the object is finalised.
+    pub fn greet(&mut self, key: u64) -> Said {
+        self.alive = true;
+        self.lossless = true;
+        if chance::one_in(key, 11, 2) {
+            return self.says(key);
         }
-        v
+        Said::Size(self.persisted)
     }
 
     // ---- what the server says
 
     // "Every stated size is true when sent, and a message is finalised only once the object is."
-    fn says(self, key: u64) -> Said {
-        let size = self.persisted;
+    fn says(&self, key: u64) -> Said {
         if self.finalised {
-            return Said {
-                kind: FINALISED,
-                size,
-            };
-        }
-        if chance::one_in(key, 10, 4) {
-            return Said {
-                kind: RESOURCE,
-                size,
-            };
-        }
-        Said { kind: SIZE, size }
-    }
-
-    // A handshake may leave unsaid that the object is finalised.
-    pub fn greets(self, key: u64) -> Said {
-        if chance::one_in(key, 11, 2) {
-            return self.says(key);
-        }
-        Said {
-            kind: SIZE,
-            size: self.persisted,
+            Said::Finalised(self.persisted)
+        } else if chance::one_in(key, 10, 4) {
+            Said::Resource(self.persisted)
+        } else {
+            Said::Size(self.persisted)
         }
     }
 }
 
-fn empty() -> Said {
-    Said {
-        kind: NOTHING,
-        size: 0,
-    }
-}
-
-fn is_right(given: Checksum, sum: u32) -> bool {
-    match given {
-        Checksum::Unknown => true,
-        Checksum::Known(x) => x == sum,
-    }
+fn is_right(given: Option<u32>, sum: u32) -> bool {
+    given.is_none_or(|x| x == sum)
 }

@@ -1,13 +1,11 @@
 // The figures of the days so far.
 use crate::bank::Bank;
-use crate::chance::minus;
 use crate::copies::Copies;
 use crate::link::Link;
 use crate::server::Server;
 use crate::world::World;
-use std::num::wrapping_add_u64;
 
-#[derive(Clone, Copy)]
+#[derive(Clone, Copy, Default)]
 pub struct Tally {
     pub events: u64,
     pub bytes: u64,
@@ -36,100 +34,56 @@ pub struct Tally {
     pub failed: bool,
 }
 
-pub fn new() -> Tally {
-    Tally {
-        events: 0,
-        bytes: 0,
-        chunks: 0,
-        own_flushes: 0,
-        messages: 0,
-        sum: 0,
-        breaks: 0,
-        redirects: 0,
-        failed_attempts: 0,
-        failed_sends: 0,
-        again: 0,
-        waiters: 0,
-        dropped: 0,
-        unanswered: 0,
-        lost: 0,
-        doubled: 0,
-        misplaced: 0,
-        cut_off: 0,
-        unpersisted: 0,
-        lacking: 0,
-        failed: false,
-    }
-}
-
 impl Tally {
     // A day more. The object is held to what the bank appended.
-    pub fn with(self, w: World) -> Tally {
-        let mut t = self
-            .with_bank(w.bank)
-            .with_copies(w.copies)
-            .with_link(w.link)
-            .with_server(w.server, w.bank.bytes);
-        t.lost = wrapping_add_u64(t.lost, w.early);
-        t.failed = w.verdict() != 0;
-        t
+    pub fn add(&mut self, w: &World) {
+        self.add_bank(&w.bank);
+        self.add_copies(&w.copies);
+        self.add_link(&w.link);
+        self.add_server(&w.server, w.bank.bytes);
+        self.lost = self.lost.wrapping_add(w.early);
+        self.failed = w.verdict().is_err();
     }
 
-    fn with_bank(mut self, b: Bank) -> Tally {
-        self.events = wrapping_add_u64(self.events, b.events());
-        self.bytes = wrapping_add_u64(self.bytes, b.bytes);
-        self.chunks = wrapping_add_u64(self.chunks, b.chunks);
-        self.own_flushes = wrapping_add_u64(self.own_flushes, b.own_flushes);
-        self.waiters = wrapping_add_u64(self.waiters, b.completed);
-        self.failed_sends = wrapping_add_u64(self.failed_sends, b.failed_sends);
-        self.again = wrapping_add_u64(self.again, b.again);
-        self
+    fn add_bank(&mut self, b: &Bank) {
+        self.events = self.events.wrapping_add(b.events());
+        self.bytes = self.bytes.wrapping_add(b.bytes);
+        self.chunks = self.chunks.wrapping_add(b.chunks);
+        self.own_flushes = self.own_flushes.wrapping_add(b.own_flushes);
+        self.waiters = self.waiters.wrapping_add(b.completed);
+        self.failed_sends = self.failed_sends.wrapping_add(b.failed_sends);
+        self.again = self.again.wrapping_add(b.again);
     }
 
-    fn with_copies(mut self, c: Copies) -> Tally {
-        self.dropped = wrapping_add_u64(self.dropped, c.dropped);
-        self.unanswered = wrapping_add_u64(self.unanswered, c.unanswered);
-        self.unpersisted = wrapping_add_u64(self.unpersisted, c.unpersisted);
-        self.lacking = wrapping_add_u64(self.lacking, c.lacking);
-        self
+    fn add_copies(&mut self, c: &Copies) {
+        self.dropped = self.dropped.wrapping_add(c.dropped);
+        self.unanswered = self.unanswered.wrapping_add(c.unanswered);
+        self.unpersisted = self.unpersisted.wrapping_add(c.unpersisted);
+        self.lacking = self.lacking.wrapping_add(c.lacking);
     }
 
-    fn with_link(mut self, l: Link) -> Tally {
-        self.messages = wrapping_add_u64(self.messages, l.bytes);
+    fn add_link(&mut self, l: &Link) {
+        self.messages = self.messages.wrapping_add(l.bytes);
         self.sum = crc32c::combine(self.sum, l.sum, l.bytes);
-        self.breaks = wrapping_add_u64(self.breaks, l.broken);
-        self.redirects = wrapping_add_u64(self.redirects, l.redirects);
-        self.failed_attempts = wrapping_add_u64(self.failed_attempts, l.failed_attempts);
-        self
+        self.breaks = self.breaks.wrapping_add(l.broken);
+        self.redirects = self.redirects.wrapping_add(l.redirects);
+        self.failed_attempts = self.failed_attempts.wrapping_add(l.failed_attempts);
     }
 
-    fn with_server(mut self, v: Server, bytes: u64) -> Tally {
-        self.lost = wrapping_add_u64(self.lost, minus(bytes, v.persisted));
-        self.doubled = wrapping_add_u64(self.doubled, minus(v.persisted, bytes));
-        self.misplaced = wrapping_add_u64(self.misplaced, v.misplaced);
-        self.cut_off = wrapping_add_u64(self.cut_off, v.cut_off);
-        self
+    fn add_server(&mut self, v: &Server, bytes: u64) {
+        self.lost = self.lost.wrapping_add(bytes.saturating_sub(v.persisted));
+        self.doubled = self.doubled.wrapping_add(v.persisted.saturating_sub(bytes));
+        self.misplaced = self.misplaced.wrapping_add(v.misplaced);
+        self.cut_off = self.cut_off.wrapping_add(v.cut_off);
     }
 
-    pub fn is_right(self) -> bool {
-        if self.failed {
-            return false;
-        }
-        if self.cut_off != 0 {
-            return false;
-        }
-        if self.lost != 0 {
-            return false;
-        }
-        if self.doubled != 0 {
-            return false;
-        }
-        if self.misplaced != 0 {
-            return false;
-        }
-        if self.unpersisted != 0 {
-            return false;
-        }
-        self.lacking == 0
+    pub fn is_right(&self) -> bool {
+        !self.failed
+            && self.cut_off == 0
+            && self.lost == 0
+            && self.doubled == 0
+            && self.misplaced == 0
+            && self.unpersisted == 0
+            && self.lacking == 0
     }
 }

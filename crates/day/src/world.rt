@@ -3,24 +3,19 @@ ghost use Rattle.std.specs.Prelude.{◌≤◌, length};
 ghost use Rattle.bidi_write.specs.View.{length_of};
 ghost use Rattle.transport.specs.View.{sent_length};
 
-use crate::bank::{Bank, EVENTS, GO_ON, NO_ROOM, STUCK, UNSETTLED};
-use crate::chance::minus;
-use crate::copies::{Copies, LONGEST, RING};
-use crate::link::{ANSWER, CHUNK, FINISH, FLUSH, HANDSHAKE, Link};
-use crate::server::Server;
-use crate::{bank, chance, copies, link, message, print, server};
-use admission::{CONNECTING, LIVE, REPLAY};
-use bidi_write::{Call, Data, Refusal, Request, refusal_number};
-use openings::OpenAnswer;
-use std::num::wrapping_add_u64;
-use transport::{Answer, MaybeRequest};
-use wire::WriteAnswer;
+use crate::bank::{Bank, EVENTS, GO_ON, Phase, Trouble};
+use crate::copies::{Copies, LONGEST};
+use crate::link::{Link, Lost};
+use crate::server::{Said, Server};
+use crate::{chance, message, print};
+use bidi_write::{Call, Refusal, Request};
+use transport::Answer;
 
-#[derive(Clone, Copy)]
+#[derive(Drop)]
 pub struct World {
     // of what is drawn next, and of the journal
-    pub key: u64,
-    pub journal: u64,
+    key: u64,
+    journal: u64,
     pub bank: Bank,
     pub copies: Copies,
     pub link: Link,
@@ -29,326 +24,246 @@ pub struct World {
     pub early: u64,
 }
 
-// A host's next call, and the world in which it makes it.
-#[derive(Clone, Copy)]
-pub struct Move {
-    pub world: World,
-    pub call: Call,
-}
-
-pub fn new(seed: u64, breaks: u64, a: OpenAnswer, released: usize, ring: &mut [u8; RING]) -> World {
-    let journal = chance::draw(seed, 50, 4294967296);
-    let bank = bank::new(opened(a));
-    let copies = copies::new(released);
-    let link = link::new(breaks);
-    let server = server::new(journal);
-    let w = World {
-        key: chance::draw(seed, 51, 4294967296),
-        journal,
-        bank,
-        copies,
-        link,
-        server,
-        early: 0,
-    };
-    begin(w, ring)
-}
-
-fn opened(a: OpenAnswer) -> u64 {
-    match a {
-        OpenAnswer::Refused(x) => refusal_number(x),
-        OpenAnswer::Opened => 0,
-    }
-}
-
 impl World {
+    pub fn new(seed: u64, breaks: u64, a: Result<(), Refusal>, released: usize) -> World {
+        let journal = chance::draw(seed, 50, 4294967296);
+        let mut w = World {
+            key: chance::draw(seed, 51, 4294967296),
+            journal,
+            bank: Bank::new(a.err().map(Trouble::Refused)),
+            copies: Copies::new(released),
+            link: Link::new(breaks),
+            server: Server::new(journal),
+            early: 0,
+        };
+        w.begin();
+        w
+    }
+
     // What went wrong today.
-    pub fn verdict(self) -> u64 {
-        let n = self.bank.verdict();
-        if n != 0 {
-            return n;
-        }
+    pub fn verdict(&self) -> Result<(), Trouble> {
+        self.bank.verdict()?;
         if self.copies.is_settled(self.bank.bytes) {
-            return 0;
+            Ok(())
+        } else {
+            Err(Trouble::Unsettled)
         }
-        UNSETTLED
+    }
+
+    // ---- the day's tasks
+
+    // The next task: an event of about 6,000 bytes, or at the end none.
+    fn begin(&mut self) {
+        let done = self.bank.task;
+        let length = event_length(self.key, done);
+        self.bank.begin(length);
+        self.link.messages = messages_left(done);
+        if length != 0 {
+            self.keep(length);
+        }
+    }
+
+    // The bank keeps a copy of the event.
+    fn keep(&mut self, length: usize) {
+        if !self.copies.has_room() {
+            self.bank.trouble = Some(Trouble::NoRoom);
+            return;
+        }
+        let journal = self.journal;
+        let from = self.bank.bytes;
+        self.copies
+            .keep(journal, from, from.wrapping_add(length as u64));
+    }
+
+    // A task ends with the completion of its waiter. Then "the base and every byte taken before the call that made it are persisted".
+    fn work(&mut self) {
+        if !self.bank.is_answered() {
+            return;
+        }
+        let lacking = self.bank.bytes.saturating_sub(self.server.persisted);
+        self.early = self.early.wrapping_add(lacking);
+        if self.bank.task % 100 == 0 {
+            print::progress(self.bank.task, self.server.persisted, self.link.broken);
+        }
+        self.begin();
+    }
+
+    // ---- the next call
+
+    pub fn next(&mut self) -> Call {
+        self.work();
+        self.key = chance::next(self.key);
+        match self.bank.phase {
+            _ if self.bank.unsent => self.bank.call(),
+            Phase::Connecting => self.dial(),
+            Phase::Live => self.live(),
+            _ => self.bank.call(),
+        }
+    }
+
+    // While live the host looks for messages and breaks when it waits, and now and then before. A desk that waits with nothing on its way waits for ever.
+    fn live(&mut self) -> Call {
+        let key = self.key;
+        let waits = self.bank.waits();
+        if !waits && chance::one_in(key, 41, 2) {
+            return self.bank.call();
+        }
+        self.server.serve(waits, key);
+        if !self.server.lossless {
+            return self.see_break();
+        }
+        if let Some(said) = self.server.message {
+            return self.receive(said);
+        }
+        if waits {
+            self.bank.trouble = Some(Trouble::Stuck);
+        }
+        self.bank.call()
+    }
+
+    // The message arrives, or a break comes first.
+    fn receive(&mut self, said: Said) -> Call {
+        if self.link.breaks_now(self.key) {
+            self.broken(Lost::Answer);
+            return self.see_break();
+        }
+        self.server.message = None;
+        self.told(said);
+        Call::Response(message::response(said))
+    }
+
+    // A message arrived.
+    fn told(&mut self, said: Said) {
+        self.bank.told(said.size());
+        self.link.passed();
+    }
+
+    // A break falls on a message.
+    fn broken(&mut self, lost: Lost) {
+        let key = self.key;
+        self.link.broken(key);
+        print::falls(self.bank.events(), self.link.broken, lost);
+    }
+
+    // The host sees that the connection is down, or takes it down.
+    fn see_break(&mut self) -> Call {
+        let key = self.key;
+        let stated = self.bank.stated;
+        self.server.cut(key);
+        self.link.erred(stated, key);
+        print::seen(self.server.lost, self.link.look);
+        Call::Break(message::stream_break(self.link.look))
+    }
+
+    // A break while connecting, an attempt that fails by itself, or the handshake.
+    fn dial(&mut self) -> Call {
+        let key = self.key;
+        if self.link.breaks_now(key) {
+            self.broken(Lost::Handshake);
+            let call = self.fail();
+            print::seen(0, self.link.look);
+            return call;
+        }
+        if chance::one_in(key, 42, 4) {
+            return self.fail();
+        }
+        // "An accepted handshake begins the next connection, with no tail, and states the true size."
+        let said = self.server.greet(key);
+        self.told(said);
+        Call::Handshake(message::response(said))
+    }
+
+    fn fail(&mut self) -> Call {
+        let key = self.key;
+        let stated = self.bank.stated;
+        self.link.failed(stated, key);
+        Call::FailedAttempt(message::stream_break(self.link.look), GO_ON)
+    }
+
+    // ---- its answer
+
+    // The modem board gets the request's message.
+    pub fn heard(&mut self, a: Result<Answer, Refusal>, out: &[u8], message: &mut [u8])
+        requires { sent_length a ≤ length out.now }
+    {
+        self.noted(a);
+        let Some(request) = shown::handed(a) else {
+            return;
+        };
+        match wire::write(request, out, message) {
+            Ok(n) => {
+                self.link.carried(&message[..n]);
+                self.send(request, out);
+            }
+            Err(x) => self.bank.trouble = Some(Trouble::Refused(x)),
+        }
+    }
+
+    // The bank notes the answer, and drops the copies that it may.
+    fn noted(&mut self, a: Result<Answer, Refusal>) {
+        self.bank.heard(a);
+        self.copies.told(shown::released(a));
+        let answered = self.bank.answered();
+        let persisted = self.server.persisted;
+        self.copies.drop_released(answered, persisted);
+    }
+
+    // The host "sends each request once, on the present connection, or reports it failed". What is sent on a connection that was cut is lost with it.
+    fn send(&mut self, r: Request, out: &[u8])
+        requires { length_of r.«data» ≤ length out.now }
+    {
+        let key = self.key;
+        self.compare(r, out);
+        if !self.server.alive {
+            self.bank.sends(r, chance::one_in(key, 43, 2));
+        } else if self.server.lossless && self.link.breaks_now(key) {
+            self.break_on(r);
+        } else {
+            self.server.take(r, out, key);
+            self.link.passed();
+            self.bank.sends(r, false);
+        }
+    }
+
+    // Every chunk is held to the bank's copies, those sent again too.
+    fn compare(&mut self, r: Request, out: &[u8])
+        requires { length_of r.«data» ≤ length out.now }
+    {
+        if let Some(c) = r.data {
+            let at = bidi_write::to_nat(r.write_offset);
+            self.copies.handed(&out[..c.length], at);
+        }
+    }
+
+    // The request is lost silently, or reported as not sent; then the connection may yet carry what comes next.
+    fn break_on(&mut self, r: Request) {
+        self.broken(lost(r));
+        let key = self.key;
+        let way = chance::draw(key, 44, 3);
+        let unsent = way != 0;
+        print::how(unsent, self.bank.phase == Phase::Replay);
+        self.server.breaks(way == 2, key);
+        self.bank.sends(r, unsent);
     }
 }
 
-// ---- the day's tasks
-
-// The next task: an event of about 6,000 bytes, or at the end none.
-fn begin(mut w: World, ring: &mut [u8; RING]) -> World {
-    let done = w.bank.task;
-    let bank = w.bank.begin(length_of(w.key, done, LONGEST));
-    w.bank = bank;
-    let messages = messages_left(done);
-    w.link.messages = messages;
-    keep(w, ring)
-}
-
-// The bank keeps a copy of the event, if there is one.
-fn keep(mut w: World, ring: &mut [u8; RING]) -> World {
-    if w.bank.length == 0 {
-        return w;
-    }
-    if !w.copies.has_room() {
-        w.bank.trouble = NO_ROOM;
-        return w;
-    }
-    let from = w.bank.bytes;
-    let to = wrapping_add_u64(from, w.bank.length as u64);
-    copies::fill(ring, w.journal, from, to);
-    let copies = w.copies.with(to);
-    w.copies = copies;
-    w
-}
-
-fn length_of(key: u64, done: u64, most: usize) -> usize {
+fn event_length(key: u64, done: u64) -> usize {
     if EVENTS <= done {
         return 0;
     }
-    let n = wrapping_add_u64(3000, chance::draw(key, 40, 6001)) as usize;
-    if most < n {
-        return most;
-    }
-    n
+    let n = chance::draw(key, 40, 6001).wrapping_add(3000) as usize;
+    n.min(LONGEST)
 }
 
 // About: two chunks, a flush and three messages for each event, a finish and its answer.
 fn messages_left(done: u64) -> u64 {
-    wrapping_add_u64(minus(EVENTS, done) % 1000 * 6, 2)
+    EVENTS.saturating_sub(done) * 6 + 2
 }
 
-// A task ends with the completion of its waiter. Then "the base and every byte taken before the call that made it are persisted".
-fn work(mut w: World, ring: &mut [u8; RING]) -> World {
-    if !w.bank.is_answered() {
-        return w;
+fn lost(r: Request) -> Lost {
+    match r.data {
+        Some(_) => Lost::Chunk,
+        None if r.finish_write => Lost::Finish,
+        None => Lost::Flush,
     }
-    w.early = wrapping_add_u64(w.early, minus(w.bank.bytes, w.server.persisted));
-    if w.bank.task % 100 == 0 {
-        print::progress(w.bank.task, w.server.persisted, w.link.broken);
-    }
-    begin(w, ring)
-}
-
-// ---- the next call
-
-pub fn next(w: World, ring: &mut [u8; RING]) -> Move {
-    let mut w = work(w, ring);
-    w.key = chance::next(w.key);
-    if w.bank.unsent {
-        return act(w);
-    }
-    let phase = w.bank.phase;
-    match phase {
-        CONNECTING => dial(w),
-        LIVE => live(w),
-        _ => act(w),
-    }
-}
-
-// While live the host looks for messages and breaks when it waits, and now and then before. A desk that waits with nothing on its way waits for ever.
-fn live(mut w: World) -> Move {
-    let waits = w.bank.waits();
-    if !waits {
-        if chance::one_in(w.key, 41, 2) {
-            return act(w);
-        }
-    }
-    let server = w.server.serve(waits, w.key);
-    w.server = server;
-    if !w.server.lossless {
-        return see_break(w);
-    }
-    if w.server.full {
-        return receive(w);
-    }
-    if waits {
-        w.bank.trouble = STUCK;
-    }
-    act(w)
-}
-
-// The host's own next call.
-fn act(w: World) -> Move {
-    let call = w.bank.call();
-    Move { world: w, call }
-}
-
-// The message arrives, or a break comes first.
-fn receive(mut w: World) -> Move {
-    if w.link.breaks_now(w.key) {
-        return see_break(broken(w, ANSWER));
-    }
-    w.server.full = false;
-    let m = w.server.message;
-    let call = Call::Response(message::response(m));
-    Move {
-        world: told(w, m.size),
-        call,
-    }
-}
-
-// A message of this size arrived.
-fn told(mut w: World, size: u64) -> World {
-    let bank = w.bank.told(size);
-    w.bank = bank;
-    let link = w.link.passed();
-    w.link = link;
-    w
-}
-
-// A break falls on a message.
-fn broken(mut w: World, what: u64) -> World {
-    let link = w.link.broken(w.key);
-    w.link = link;
-    print::falls(w.bank.events(), w.link.broken, what);
-    w
-}
-
-// The host sees that the connection is down, or takes it down.
-fn see_break(mut w: World) -> Move {
-    let server = w.server.cut(w.key);
-    w.server = server;
-    let link = w.link.erred(w.bank.stated, w.key);
-    w.link = link;
-    print::seen(w.server.lost, w.link.kind);
-    let call = Call::Break(message::stream_break(w.link.kind));
-    Move { world: w, call }
-}
-
-// A break while connecting, an attempt that fails by itself, or the handshake.
-fn dial(w: World) -> Move {
-    if w.link.breaks_now(w.key) {
-        return fail(broken(w, HANDSHAKE), true);
-    }
-    if chance::one_in(w.key, 42, 4) {
-        return fail(w, false);
-    }
-    greet(w)
-}
-
-fn fail(mut w: World, tells: bool) -> Move {
-    let link = w.link.failed(w.bank.stated, w.key);
-    w.link = link;
-    if tells {
-        print::seen(0, w.link.kind);
-    }
-    let call = Call::FailedAttempt(message::stream_break(w.link.kind), GO_ON);
-    Move { world: w, call }
-}
-
-// "An accepted handshake begins the next connection, with no tail, and states the true size."
-fn greet(mut w: World) -> Move {
-    w.server.alive = true;
-    w.server.lossless = true;
-    let m = w.server.greets(w.key);
-    let call = Call::Handshake(message::response(m));
-    Move {
-        world: told(w, m.size),
-        call,
-    }
-}
-
-// ---- its answer
-
-// The modem board gets the request's message.
-pub fn heard(w: World, a: Answer, out: &[u8], message: &mut [u8], ring: &mut [u8; RING]) -> World
-    requires { sent_length a ≤ length out.now }
-{
-    let w = noted(w, a, ring);
-    let handed = shown::handed(a);
-    let MaybeRequest::Present(request) = handed else {
-        return w;
-    };
-    let written = wire::write(request, out, message);
-    match written {
-        WriteAnswer::Wrote(n) => send(carried(w, &message[..n]), request, out, ring),
-        WriteAnswer::Refused(x) => refused(w, x),
-    }
-}
-
-// The bank notes the answer, and drops the copies that it may.
-fn noted(mut w: World, a: Answer, ring: &mut [u8; RING]) -> World {
-    let bank = w.bank.heard(a);
-    w.bank = bank;
-    let told = w.copies.told(shown::released(a));
-    let copies = copies::drop_released(told, ring, w.bank.answered(), w.server.persisted);
-    w.copies = copies;
-    w
-}
-
-fn carried(mut w: World, message: &[u8]) -> World {
-    let link = w.link.carried(message);
-    w.link = link;
-    w
-}
-
-fn refused(mut w: World, x: Refusal) -> World {
-    let number = refusal_number(x);
-    w.bank.trouble = number;
-    w
-}
-
-// The host "sends each request once, on the present connection, or reports it failed". What is sent on a connection that was cut is lost with it.
-fn send(w: World, r: Request, out: &[u8], ring: &[u8; RING]) -> World
-    requires { length_of r.«data» ≤ length out.now }
-{
-    let mut w = compared(w, r, out, ring);
-    if !w.server.alive {
-        return sent(w, r, chance::one_in(w.key, 43, 2));
-    }
-    if w.server.lossless {
-        if w.link.breaks_now(w.key) {
-            return break_on(w, r);
-        }
-    }
-    let server = w.server.take(r, out, w.key);
-    w.server = server;
-    let link = w.link.passed();
-    w.link = link;
-    sent(w, r, false)
-}
-
-// Every chunk is held to the bank's copies, those sent again too.
-fn compared(mut w: World, r: Request, out: &[u8], ring: &[u8; RING]) -> World
-    requires { length_of r.«data» ≤ length out.now }
-{
-    let at = r.write_offset;
-    let data = r.data;
-    let Data::Checksummed(c) = data else {
-        return w;
-    };
-    let n = c.length;
-    let copies = w.copies.handed(ring, &out[..n], bidi_write::to_nat(at));
-    w.copies = copies;
-    w
-}
-
-fn sent(mut w: World, r: Request, unsent: bool) -> World {
-    let bank = w.bank.sends(r, unsent);
-    w.bank = bank;
-    w
-}
-
-// The request is lost silently, or reported as not sent; then the connection may yet carry what comes next.
-fn break_on(w: World, r: Request) -> World {
-    let mut w = broken(w, what(r));
-    let way = chance::draw(w.key, 44, 3);
-    print::how(way != 0, w.bank.phase == REPLAY);
-    let server = w.server.breaks(way == 2, w.key);
-    w.server = server;
-    sent(w, r, way != 0)
-}
-
-fn what(r: Request) -> u64 {
-    let data = r.data;
-    if let Data::Checksummed(_) = data {
-        return CHUNK;
-    }
-    if r.finish_write {
-        return FINISH;
-    }
-    FLUSH
 }

@@ -1,167 +1,75 @@
-// The fields of a record. Each says where the next one begins: CUT where the input ends before, or a byte is none of the field's values.
-// A field that is read at CUT is cut too, so that a record is tested once, at its end.
-ghost use Rattle.std.specs.Prelude.{◌≡◌, ◌-◌, length};
+// The fields of a record. Each is taken off the front of what is left of the input; there is none where the input ends before, or where a byte is none of
+// the field's values. What is left is then no more than it was, and no use: a record is read whole or not at all.
+ghost use Rattle.std.specs.Prelude.{◌≤◌, length};
 
-// No input is this long.
-pub const CUT: usize = usize::MAX;
-
-#[derive(Clone, Copy)]
-pub struct U8 {
-    pub value: u8,
-    pub next: usize,
+pub trait Field<'a> {
+    fn take(input: &mut &'a [u8]) -> Option<Self>
+        ensures { length input.new.now ≤ length input.old.now };
 }
 
-#[derive(Clone, Copy)]
-pub struct U16 {
-    pub value: u16,
-    pub next: usize,
-}
-
-#[derive(Clone, Copy)]
-pub struct U32 {
-    pub given: bool,
-    pub value: u32,
-    pub next: usize,
-}
-
-#[derive(Clone, Copy)]
-pub struct I64 {
-    pub given: bool,
-    pub value: i64,
-    pub next: usize,
-}
-
-// The bytes from `from` up to `next`.
-#[derive(Clone, Copy)]
-pub struct Text {
-    pub given: bool,
-    pub from: usize,
-    pub next: usize,
-}
-
-// How many bytes are left from a place on.
-fn left(input: &[u8], at: usize) -> usize
-    ensures { result ≡ length input.now - at }
+pub fn take<'a, T: Field<'a>>(input: &mut &'a [u8]) -> Option<T>
+    ensures { length input.new.now ≤ length input.old.now }
 {
-    if at < input.len() {
-        input.len() - at
-    } else {
-        0
+    T::take(input)
+}
+
+impl<'a, const N: usize> Field<'a> for [u8; N] {
+    fn take(input: &mut &'a [u8]) -> Option<[u8; N]> {
+        let (bytes, rest) = input.split_first_chunk()?;
+        *input = rest;
+        Some(*bytes)
     }
 }
 
-pub fn u8_at(input: &[u8], at: usize) -> U8 {
-    if left(input, at) < 1 {
-        return U8 {
-            value: 0,
-            next: CUT,
-        };
-    }
-    U8 {
-        value: input[at],
-        next: at + 1,
+impl<'a> Field<'a> for u8 {
+    fn take(input: &mut &'a [u8]) -> Option<u8> {
+        input.split_off_first().copied()
     }
 }
 
-// A byte of at most `most`.
-pub fn choice(input: &[u8], at: usize, most: u8) -> U8 {
-    let b = u8_at(input, at);
-    let value = b.value;
-    if most < value {
-        return U8 {
-            value: 0,
-            next: CUT,
-        };
-    }
-    b
-}
-
-pub fn u16_at(input: &[u8], at: usize) -> U16 {
-    if left(input, at) < 2 {
-        return U16 {
-            value: 0,
-            next: CUT,
-        };
-    }
-    U16 {
-        value: bench_records::u16_of(input[at], input[at + 1]),
-        next: at + 2,
+impl<'a> Field<'a> for u16 {
+    fn take(input: &mut &'a [u8]) -> Option<u16> {
+        take(input).map(u16::from_le_bytes)
     }
 }
 
-pub fn u32_at(input: &[u8], at: usize) -> U32 {
-    let low = u16_at(input, at);
-    let high = u16_at(input, low.next);
-    U32 {
-        given: true,
-        value: bench_records::u32_of(low.value, high.value),
-        next: high.next,
+impl<'a> Field<'a> for u32 {
+    fn take(input: &mut &'a [u8]) -> Option<u32> {
+        take(input).map(u32::from_le_bytes)
     }
 }
 
-pub fn i64_at(input: &[u8], at: usize) -> I64 {
-    let low = u32_at(input, at);
-    let high = u32_at(input, low.next);
-    let x = bidi_write::i64_of(bench_records::u64_of(low.value, high.value));
-    I64 {
-        given: true,
-        value: x,
-        next: high.next,
+impl<'a> Field<'a> for i64 {
+    fn take(input: &mut &'a [u8]) -> Option<i64> {
+        take(input).map(i64::from_le_bytes)
     }
 }
 
-pub fn text_at(input: &[u8], at: usize) -> Text {
-    let length = u16_at(input, at);
-    let from = length.next;
-    let n = length.value as usize;
-    if left(input, from) < n {
-        return no_text(CUT);
-    }
-    Text {
-        given: true,
-        from,
-        next: from + n,
+impl<'a> Field<'a> for bool {
+    fn take(input: &mut &'a [u8]) -> Option<bool> {
+        match take::<u8>(input)? {
+            0 => Some(false),
+            1 => Some(true),
+            _ => None,
+        }
     }
 }
 
-pub fn no_text(next: usize) -> Text {
-    Text {
-        given: false,
-        from: next,
-        next,
+// A length and the bytes.
+impl<'a> Field<'a> for &'a [u8] {
+    fn take(input: &mut &'a [u8]) -> Option<&'a [u8]> {
+        let length = take::<u16>(input)?;
+        input.split_off(..length as usize)
     }
 }
 
-// ---- what may be absent: 0, or 1 and the field
-
-pub fn maybe_u32_at(input: &[u8], at: usize) -> U32 {
-    let present = choice(input, at, 1);
-    if present.value == 0 {
-        return U32 {
-            given: false,
-            value: 0,
-            next: present.next,
-        };
+// What may be absent: 0, or 1 and the field.
+impl<'a, T: Field<'a>> Field<'a> for Option<T> {
+    fn take(input: &mut &'a [u8]) -> Option<Option<T>> {
+        if take(input)? {
+            take(input).map(Some)
+        } else {
+            Some(None)
+        }
     }
-    u32_at(input, present.next)
-}
-
-pub fn maybe_i64_at(input: &[u8], at: usize) -> I64 {
-    let present = choice(input, at, 1);
-    if present.value == 0 {
-        return I64 {
-            given: false,
-            value: 0,
-            next: present.next,
-        };
-    }
-    i64_at(input, present.next)
-}
-
-pub fn maybe_text_at(input: &[u8], at: usize) -> Text {
-    let present = choice(input, at, 1);
-    if present.value == 0 {
-        return no_text(present.next);
-    }
-    text_at(input, present.next)
 }

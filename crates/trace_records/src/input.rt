@@ -1,48 +1,57 @@
-// Records out of standard input, by way of a buffer. Of its bytes those from `at` up to `end` are not used yet.
-use crate::fields::CUT;
+// Records out of standard input, by way of a buffer.
+ghost use Rattle.std.specs.Prelude.{◌≤◌, length, IfSome};
+
 use crate::{Record, read};
-use trace_text::part;
 
 const STDIN_FILENO: i32 = 0;
 
-// A record, and where the buffer's bytes end.
-#[derive(Clone, Copy)]
-pub struct Fetched {
-    pub record: Record,
-    pub end: usize,
+// Of the buffer's bytes those from `at` up to `end` are not used yet.
+#[derive(Drop)]
+pub struct Input<'b> {
+    buffer: &'b mut [u8],
+    at: usize,
+    end: usize,
+    ghost in_order: { at ≤ end },
+    ghost within: { end ≤ length buffer.now },
 }
 
-// The next record, out of more input where the buffer has no whole one.
-pub fn fetch(input: &mut [u8], at: usize, end: usize) -> Fetched {
-    let record = read(part(input, 0, end), at);
-    if record.next != CUT {
-        return Fetched { record, end };
+impl<'b> Input<'b> {
+    pub fn new(buffer: &'b mut [u8]) -> Input<'b> {
+        Input {
+            buffer,
+            at: 0,
+            end: 0,
+        }
     }
-    let end = refill(input, at, end);
-    let record = read(part(input, 0, end), 0);
-    Fetched { record, end }
-}
 
-// Moves what is not used yet to the front and fills the buffer behind it; says where that ends.
-fn refill(input: &mut [u8], at: usize, end: usize) -> usize {
-    let kept = shift(input, at, end);
-    if input.len() < kept {
-        return kept;
+    // The next record, out of more input where the buffer has no whole one.
+    pub fn record(&mut self) -> Option<Record<'_>> {
+        if self.next().is_none() {
+            self.refill();
+        }
+        let at = self.at;
+        let end = self.end;
+        self.at = self.next()?;
+        read(&mut &self.buffer[at..end])
     }
-    let more = io::read_full(STDIN_FILENO, &mut input[kept..]);
-    kept + more
-}
 
-fn shift(input: &mut [u8], at: usize, end: usize) -> usize {
-    if input.len() < end {
-        return 0;
+    // Where the record behind the next one begins; none where that is not whole.
+    fn next(&self) -> Option<usize>
+        ensures { IfSome result (λ n. n ≤ self.now.end) }
+    {
+        let mut left = &self.buffer[self.at..self.end];
+        read(&mut left)?;
+        Some(self.end - left.len())
     }
-    let mut from = at;
-    let mut to = 0;
-    while from < end {
-        input[to] = input[from];
-        from += 1;
-        to += 1;
+
+    // Moves what is not used yet to the front and fills the buffer behind it.
+    fn refill(&mut self) {
+        let at = self.at;
+        let end = self.end;
+        let kept = end - at;
+        self.buffer.copy_within(at..end, 0);
+        let more = io::read_full(STDIN_FILENO, &mut self.buffer[kept..]);
+        self.at = 0;
+        self.end = kept + more;
     }
-    to
 }

@@ -1,107 +1,79 @@
 // An opening, and the lengths of what is lent to its session.
-use crate::fields::{
-    I64, Text, U32, choice, i64_at, maybe_i64_at, maybe_text_at, maybe_u32_at, text_at, u16_at,
-    u32_at,
-};
-use crate::message::read_message;
-use bidi_write::{Checksum, Generation, Metageneration, Offset};
-use openings::{Capacity, Opening};
-use state::Condition;
+use crate::fields::{Field, take};
+use crate::message;
+use bidi_write::{Generation, Metageneration, Offset};
+use openings::Opening;
 
 #[derive(Clone, Copy)]
 pub struct Lent {
     pub store: usize,
     pub slots: usize,
     pub out: usize,
-    pub next: usize,
 }
 
-// An opening, with where its names, handles, token and payload stand.
+// An opening, with its names, handles, token and payload; what is not given is empty.
 #[derive(Clone, Copy)]
-pub struct Opens {
+pub struct Opens<'a> {
+    pub lent: Lent,
     pub opening: Opening,
-    pub bucket: Text,
-    pub object: Text,
-    pub routing_token: Text,
-    pub write_handle: Text,
-    pub payload: Text,
-    pub response_handle: Text,
-    pub next: usize,
+    pub bucket: &'a [u8],
+    pub object: &'a [u8],
+    pub routing_token: &'a [u8],
+    pub write_handle: &'a [u8],
+    pub payload: &'a [u8],
+    pub response_handle: &'a [u8],
 }
 
-pub fn read_lent(input: &[u8], at: usize) -> Lent {
-    let store = u16_at(input, at);
-    let slots = u16_at(input, store.next);
-    let out = u16_at(input, slots.next);
-    Lent {
-        store: store.value as usize,
-        slots: slots.value as usize,
-        out: out.value as usize,
-        next: out.next,
+impl<'a> Field<'a> for Lent {
+    fn take(input: &mut &'a [u8]) -> Option<Lent> {
+        Some(Lent {
+            store: take::<u16>(input)? as usize,
+            slots: take::<u16>(input)? as usize,
+            out: take::<u16>(input)? as usize,
+        })
     }
 }
 
-pub fn read_opening(input: &[u8], at: usize) -> Opens {
-    let lent = read_lent(input, at);
-    let limit = u32_at(input, lent.next);
-    let asked = maybe_u32_at(input, limit.next);
-    let last = i64_at(input, asked.next);
-    let form = choice(input, last.next, 1);
-    let bucket = text_at(input, form.next);
-    let object = text_at(input, bucket.next);
-    let generation = i64_at(input, object.next);
-    let routing_token = maybe_text_at(input, generation.next);
-    let write_handle = maybe_text_at(input, routing_token.next);
-    let matching = maybe_i64_at(input, write_handle.next);
-    let not_matching = maybe_i64_at(input, matching.next);
-    let payload = maybe_text_at(input, not_matching.next);
-    let m = read_message(input, payload.next);
-    let response = m.response;
-    let response_handle = m.handle;
-    let sum = maybe_u32_at(input, response_handle.next);
-    let opening = Opening {
-        limit: limit.value as usize,
-        capacity: capacity(asked),
-        append: form.value == 1,
-        generation: Generation(generation.value),
-        has_write_handle: write_handle.given,
-        has_routing_token: routing_token.given,
-        if_metageneration_match: condition(matching),
-        if_metageneration_not_match: condition(not_matching),
-        response,
-        checksum: checksum(sum),
-        has_payload: payload.given,
-        last_persisted_size: Offset(last.value),
-    };
-    Opens {
-        opening,
-        bucket,
-        object,
-        routing_token,
-        write_handle,
-        payload,
-        response_handle,
-        next: sum.next,
+impl<'a> Field<'a> for Opens<'a> {
+    fn take(input: &mut &'a [u8]) -> Option<Opens<'a>> {
+        let lent = take(input)?;
+        let limit = take::<u32>(input)?;
+        let asked = take::<Option<u32>>(input)?;
+        let last_persisted_size = take(input).map(Offset)?;
+        let append = take(input)?;
+        let bucket = take(input)?;
+        let object = take(input)?;
+        let generation = take(input).map(Generation)?;
+        let routing_token = take::<Option<&'a [u8]>>(input)?;
+        let write_handle = take::<Option<&'a [u8]>>(input)?;
+        let matching = take::<Option<i64>>(input)?;
+        let not_matching = take::<Option<i64>>(input)?;
+        let payload = take::<Option<&'a [u8]>>(input)?;
+        let (response, response_handle) = message::response(input)?;
+        let checksum = take(input)?;
+        let opening = Opening {
+            limit: limit as usize,
+            capacity: asked.map(|n| n as usize),
+            append,
+            generation,
+            has_write_handle: write_handle.is_some(),
+            has_routing_token: routing_token.is_some(),
+            if_metageneration_match: matching.map(Metageneration),
+            if_metageneration_not_match: not_matching.map(Metageneration),
+            response,
+            checksum,
+            has_payload: payload.is_some(),
+            last_persisted_size,
+        };
+        Some(Opens {
+            lent,
+            opening,
+            bucket,
+            object,
+            routing_token: routing_token.unwrap_or(&[]),
+            write_handle: write_handle.unwrap_or(&[]),
+            payload: payload.unwrap_or(&[]),
+            response_handle,
+        })
     }
-}
-
-fn capacity(x: U32) -> Capacity {
-    if x.given {
-        return Capacity::Asked(x.value as usize);
-    }
-    Capacity::Default
-}
-
-fn condition(x: I64) -> Condition {
-    if x.given {
-        return Condition::Is(Metageneration(x.value));
-    }
-    Condition::Absent
-}
-
-fn checksum(x: U32) -> Checksum {
-    if x.given {
-        return Checksum::Known(x.value);
-    }
-    Checksum::Unknown
 }

@@ -1,8 +1,6 @@
 // What is printed goes to a buffer, of which the first n bytes wait. Each function takes n and gives the new one.
 #![tactic(auto)]
 
-ghost use Rattle.std.specs.Prelude.{◌≤◌};
-
 use text::Line;
 
 const STDOUT_FILENO: i32 = 1;
@@ -14,20 +12,7 @@ pub fn flush(out: &[u8], n: usize) {
 
 // The bytes from `from` up to `to`, none where the slice has no such part.
 pub fn part(s: &[u8], from: usize, to: usize) -> &[u8] {
-    if s.len() < to {
-        return &s[..0];
-    }
-    if to < from {
-        return &s[..0];
-    }
-    &s[from..to]
-}
-
-// A length, cut down to what is there.
-pub fn least(a: usize, b: usize) -> usize
-    ensures { result ≤ b }
-{
-    if a < b { a } else { b }
+    s.get(from..to).unwrap_or(&[])
 }
 
 // A full buffer is written first.
@@ -48,20 +33,15 @@ fn place(out: &[u8], n: usize) -> usize {
     0
 }
 
-pub fn text(out: &mut [u8], n: usize, s: &[u8]) -> usize {
-    let mut n = n;
-    let mut i = 0;
-    while i < s.len() {
-        n = byte(out, n, s[i]);
-        i += 1;
+pub fn text(out: &mut [u8], mut n: usize, s: &[u8]) -> usize {
+    for &b in s {
+        n = byte(out, n, b);
     }
     n
 }
 
 pub fn line(out: &mut [u8], n: usize, x: Line) -> usize {
-    let k = x.end();
-    let bytes = x.bytes;
-    text(out, n, &bytes[..k])
+    text(out, n, &x.bytes[..x.end()])
 }
 
 pub fn number(out: &mut [u8], n: usize, x: u64) -> usize {
@@ -73,10 +53,7 @@ pub fn signed(out: &mut [u8], n: usize, x: i64) -> usize {
 }
 
 pub fn flag(out: &mut [u8], n: usize, on: bool) -> usize {
-    if on {
-        return byte(out, n, b'1');
-    }
-    byte(out, n, b'0')
+    byte(out, n, if on { b'1' } else { b'0' })
 }
 
 // A byte's two hexadecimal digits.
@@ -93,12 +70,9 @@ fn digit(d: u8) -> u8 {
     }
 }
 
-pub fn hexes(out: &mut [u8], n: usize, s: &[u8]) -> usize {
-    let mut n = n;
-    let mut i = 0;
-    while i < s.len() {
-        n = hex(out, n, s[i]);
-        i += 1;
+pub fn hexes(out: &mut [u8], mut n: usize, s: &[u8]) -> usize {
+    for &b in s {
+        n = hex(out, n, b);
     }
     n
 }
