@@ -110,7 +110,7 @@ fn odd_one(op: &[u32; 32], x: u32, n: u64) -> u32
 fn square(op: &[u32; 32]) -> [u32; 32]
     ensures { result ≡ map (applied op.now) op.now }
 {
-    op.map(|x| apply(op, x))
+    array::from_fn(|i| apply(op, op[i]))
 }
 
 // An operator at a register: the sum of its columns at the register's ones.
