@@ -6,7 +6,9 @@ mod script;
 use script::{open, play};
 use std::ops::ControlFlow;
 use trace_records::Record;
+use trace_records::fields::take;
 use trace_records::input::Input;
+use trace_records::opening::Opens;
 use trace_text::{flush, text};
 
 // An opening with six texts of 65,535 bytes, the longest record, has 393,300.
@@ -50,8 +52,7 @@ fn run(
     n
 }
 
-// A record outside of a script, or a script, with as much lent to its session as its opening says. It says how much of the output waits, and breaks off
-// where the run is over.
+// A record outside of a script, or a script. It says how much of the output waits, and breaks off where the run is over.
 fn turn(
     input: &mut Input<'_>,
     out: &mut [u8],
@@ -60,18 +61,36 @@ fn turn(
     room: &mut [u8],
     n: usize,
 ) -> ControlFlow<usize, usize> {
+    if input.opens() {
+        return begin(input, out, store, table, room, n);
+    }
     match input.record() {
-        Some(Record::Opening(o)) => {
-            let a = o.lent.store.min(store.len());
-            let b = o.lent.slots.min(table.len());
-            let c = o.lent.out.min(room.len());
-            let store = &mut store[..a];
-            let table = &mut table[..b];
-            let opened = open(&o, store, table);
-            play(input, out, store, table, &mut room[..c], opened, n)
-        }
         Some(Record::Call(_, _) | Record::Write(_, _)) => ControlFlow::Continue(n),
         Some(Record::End) => ControlFlow::Continue(text(out, n, b"\n")),
-        None => ControlFlow::Break(n),
+        Some(Record::Opening(_)) | None => ControlFlow::Break(n),
     }
+}
+
+// A script, with as much lent to its session as its opening says.
+fn begin(
+    input: &mut Input<'_>,
+    out: &mut [u8],
+    store: &mut [u8],
+    table: &mut [u64],
+    room: &mut [u8],
+    n: usize,
+) -> ControlFlow<usize, usize> {
+    let Some(Record::Opening(mut fields)) = input.record() else {
+        return ControlFlow::Break(n);
+    };
+    let Some(o) = take::<Opens<'_>>(&mut fields) else {
+        return ControlFlow::Break(n);
+    };
+    let a = o.lent.store.min(store.len());
+    let b = o.lent.slots.min(table.len());
+    let c = o.lent.out.min(room.len());
+    let store = &mut store[..a];
+    let table = &mut table[..b];
+    let opened = open(&o, store, table);
+    play(input, out, store, table, &mut room[..c], opened, n)
 }

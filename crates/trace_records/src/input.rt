@@ -1,5 +1,5 @@
 // Records out of standard input, by way of a buffer.
-ghost use Rattle.std.specs.Prelude.{◌≤◌, length, IfSome};
+ghost use Rattle.std.specs.Prelude.{◌≡◌, true, ◌+◌, ◌≤◌, length, IfSome};
 
 use crate::{Record, read};
 
@@ -24,15 +24,34 @@ impl<'b> Input<'b> {
         }
     }
 
-    // The next record, out of more input where the buffer has no whole one.
-    pub fn record(&mut self) -> Option<Record<'_>> {
-        if self.next().is_none() {
+    // Whether an opening is next: its mark is at hand.
+    pub fn opens(&mut self) -> bool
+        ensures { result ≡ true → self.new.at + 2 ≤ self.new.end }
+    {
+        if self.end - self.at < 2 {
             self.refill();
         }
+        2 <= self.end - self.at && self.buffer[self.at..self.end].starts_with(b"OP")
+    }
+
+    // The next record, out of more input where the buffer has no whole one.
+    pub fn record(&mut self) -> Option<Record<'_>> {
+        let next = self.fetched()?;
         let at = self.at;
         let end = self.end;
-        self.at = self.next()?;
+        self.at = next;
         read(&mut &self.buffer[at..end])
+    }
+
+    // Where the record behind the next one begins, once the buffer has that one.
+    fn fetched(&mut self) -> Option<usize>
+        ensures { IfSome result (λ n. n ≤ self.new.end) }
+    {
+        if let Some(next) = self.next() {
+            return Some(next);
+        }
+        self.refill();
+        self.next()
     }
 
     // Where the record behind the next one begins; none where that is not whole.

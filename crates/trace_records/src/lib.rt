@@ -15,7 +15,8 @@ use opening::Opens;
 // What a record asks for.
 #[derive(Clone, Copy)]
 pub enum Record<'a> {
-    Opening(Opens<'a>),
+    // the bytes that its fields begin; they are read where it is played, so that no other record is as large as an opening
+    Opening(&'a [u8]),
     // a call, and the bytes that come beside it
     Call(Call, &'a [u8]),
     // the last request's bytes, into a buffer of the first length, with as much of out lent as the second
@@ -29,7 +30,7 @@ pub fn read<'a>(input: &mut &'a [u8]) -> Option<Record<'a>>
     ensures { length input.new.now ≤ length input.old.now }
 {
     match &take::<[u8; 2]>(input)? {
-        b"OP" => take(input).map(Record::Opening),
+        b"OP" => open(input),
         b"AP" => Some(Record::Call(Call::Append, take(input)?)),
         b"FL" => Some(bare(Call::Flush)),
         b"FI" => Some(bare(Call::Finalise)),
@@ -58,6 +59,14 @@ pub fn read<'a>(input: &mut &'a [u8]) -> Option<Record<'a>>
         b"EN" => Some(Record::End),
         _ => None,
     }
+}
+
+fn open<'a>(input: &mut &'a [u8]) -> Option<Record<'a>>
+    ensures { length input.new.now ≤ length input.old.now }
+{
+    let fields = *input;
+    take::<Opens<'a>>(input)?;
+    Some(Record::Opening(fields))
 }
 
 // A call that brings no bytes.
