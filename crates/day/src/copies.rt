@@ -1,5 +1,5 @@
 // "A bank holds its own copy of each event until the hub no longer needs it": until all of its bytes are released.
-ghost use Rattle.std.specs.Prelude.{◌<◌};
+ghost use Rattle.std.specs.Prelude.{◌<◌, ◌≤◌, length};
 
 use crate::journal;
 
@@ -10,7 +10,7 @@ pub const LONGEST: usize = 9000;
 
 const MOST: usize = 3;
 
-#[derive(Drop)]
+#[derive(Clone, Copy)]
 pub struct Copies {
     // the copies' bytes, each at the remainder of its offset
     ring: [u8; RING],
@@ -58,7 +58,9 @@ impl Copies {
     }
 
     // The n bytes from an offset on, in one piece; none where they do not fit.
-    pub fn read<'a>(&self, at: u64, n: usize, event: &'a mut [u8]) -> &'a [u8] {
+    pub fn read<'a>(&self, at: u64, n: usize, event: &'a mut [u8]) -> &'a [u8]
+        ensures { length result.now ≤ length event.old }
+    {
         let Some(event) = event.get_mut(..n) else {
             return &[];
         };

@@ -1,6 +1,8 @@
 // A day: open, and then call after call until the session has ended. Here alone is the session.
+use crate::bank::Trouble;
 use crate::message;
 use crate::server::Said;
+use crate::tally::Tally;
 use crate::world::World;
 use bidi_write::{Generation, Offset};
 use openings::{Opened, Opening};
@@ -14,8 +16,8 @@ const CAPACITY: usize = 16384;
 const MOST_CALLS: u64 = 10000000;
 
 // The store is the ring's size, capacity + 2 * limit - 2. A message has at most 39 bytes more than its data. An event's copy may
-// lie in two pieces; an append is lent it in one.
-pub fn run(seed: u64, breaks: u64) -> World {
+// lie in two pieces; an append is lent it in one. The day goes into the tally; what went wrong is answered.
+pub fn run(seed: u64, breaks: u64, tally: &mut Tally) -> Result<(), Trouble> {
     let mut store = [0u8; 24574];
     let mut table = [0u64; 64];
     let mut out = [0u8; 4096];
@@ -24,6 +26,7 @@ pub fn run(seed: u64, breaks: u64) -> World {
     let opened = open(&mut store, &mut table);
     let mut s = opened.session;
     let mut w = World::new(seed, breaks, opened.answer, opened.released);
+    w.begin();
     for _ in 0..MOST_CALLS {
         let call = w.next();
         let data = w.copies.read(w.bank.bytes, w.bank.left(), &mut event);
@@ -34,7 +37,8 @@ pub fn run(seed: u64, breaks: u64) -> World {
             break;
         }
     }
-    w
+    tally.add(&w);
+    w.verdict()
 }
 
 // A new object, which the response names.

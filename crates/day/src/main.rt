@@ -97,9 +97,7 @@ fn run(a: Arguments) -> Tally {
     for day in 1..=a.days {
         print::figure(b"day", day);
         let key = chance::draw(a.seed, 867, 4294967296).wrapping_add(day);
-        let w = day::run(key, a.breaks);
-        t.add(&w);
-        if let Err(trouble) = w.verdict() {
+        if let Err(trouble) = day::run(key, a.breaks, &mut t) {
             print::trouble(trouble);
             break;
         }

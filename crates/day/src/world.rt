@@ -11,7 +11,7 @@ use crate::{chance, message, print};
 use bidi_write::{Call, Refusal, Request};
 use transport::Answer;
 
-#[derive(Drop)]
+#[derive(Clone, Copy)]
 pub struct World {
     // of what is drawn next, and of the journal
     key: u64,
@@ -25,9 +25,10 @@ pub struct World {
 }
 
 impl World {
+    // The day before its first task, so that `begin` comes next. Nothing is done to it here: it is large, and is made where it stays.
     pub fn new(seed: u64, breaks: u64, a: Result<(), Refusal>, released: usize) -> World {
         let journal = chance::draw(seed, 50, 4294967296);
-        let mut w = World {
+        World {
             key: chance::draw(seed, 51, 4294967296),
             journal,
             bank: Bank::new(a.err().map(Trouble::Refused)),
@@ -35,9 +36,7 @@ impl World {
             link: Link::new(breaks),
             server: Server::new(journal),
             early: 0,
-        };
-        w.begin();
-        w
+        }
     }
 
     // What went wrong today.
@@ -53,7 +52,7 @@ impl World {
     // ---- the day's tasks
 
     // The next task: an event of about 6,000 bytes, or at the end none.
-    fn begin(&mut self) {
+    pub fn begin(&mut self) {
         let done = self.bank.task;
         let length = event_length(self.key, done);
         self.bank.begin(length);
