@@ -61,13 +61,11 @@ fn turn(
     room: &mut [u8],
     n: usize,
 ) -> ControlFlow<usize, usize> {
-    if input.opens() {
-        return begin(input, out, store, table, room, n);
-    }
     match input.record() {
+        Some(Record::Opening(length)) => begin(input, out, store, table, room, length, n),
         Some(Record::Call(_, _) | Record::Write(_, _)) => ControlFlow::Continue(n),
         Some(Record::End) => ControlFlow::Continue(text(out, n, b"\n")),
-        Some(Record::Opening(_)) | None => ControlFlow::Break(n),
+        None => ControlFlow::Break(n),
     }
 }
 
@@ -78,12 +76,10 @@ fn begin(
     store: &mut [u8],
     table: &mut [u64],
     room: &mut [u8],
+    length: usize,
     n: usize,
 ) -> ControlFlow<usize, usize> {
-    let Some(Record::Opening(mut fields)) = input.record() else {
-        return ControlFlow::Break(n);
-    };
-    let Some(o) = take::<Opens<'_>>(&mut fields) else {
+    let Some(o) = take::<Opens<'_>>(&mut input.brought(length)) else {
         return ControlFlow::Break(n);
     };
     let a = o.lent.store.min(store.len());

@@ -59,8 +59,8 @@ fn follow(
             Some(Record::Write(length, data)) => {
                 n = write(out, n, request, room, data, length);
             }
-            Some(Record::Call(call, bytes)) => {
-                let a = steps::step(&mut s, call, store, table, room, bytes);
+            Some(Record::Call(call, length)) => {
+                let a = steps::step(&mut s, call, store, table, room, input.brought(length));
                 n = answer(out, n, call, a, room);
                 n = state_of(out, n, store, table, &s);
                 // A refused call leaves the request of the one before.

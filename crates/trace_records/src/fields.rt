@@ -1,19 +1,26 @@
 // The fields of a record. Each is taken off the front of what is left of the input; there is none where the input ends before, or where a byte is none of
 // the field's values. What is left is then no more than it was, and no use: a record is read whole or not at all.
-ghost use Rattle.std.specs.Prelude.{◌≤◌, length};
+ghost use Rattle.std.specs.Prelude.{ℕ, ◌+◌, ◌≤◌, length, IfSome, None, Some};
 
 pub trait Field<'a> {
+    // How many of the input's bytes the value holds, at least.
+    ghost held: { Self → ℕ } = { λ _. 0 };
+
     fn take(input: &mut &'a [u8]) -> Option<Self>
-        ensures { length input.new.now ≤ length input.old.now };
+        ensures no_more { length input.new.now ≤ length input.old.now }
+        ensures holds { IfSome result (λ v. held v + length input.new.now ≤ length input.old.now) };
 }
 
 pub fn take<'a, T: Field<'a>>(input: &mut &'a [u8]) -> Option<T>
-    ensures { length input.new.now ≤ length input.old.now }
+    ensures no_more { length input.new.now ≤ length input.old.now }
+    ensures holds { IfSome result (λ v. T.held v + length input.new.now ≤ length input.old.now) }
 {
     T::take(input)
 }
 
 impl<'a, const N: usize> Field<'a> for [u8; N] {
+    ghost held = { λ _. N };
+
     fn take(input: &mut &'a [u8]) -> Option<[u8; N]> {
         let (bytes, rest) = input.split_first_chunk()?;
         *input = rest;
@@ -57,6 +64,8 @@ impl<'a> Field<'a> for bool {
 
 // A length and the bytes.
 impl<'a> Field<'a> for &'a [u8] {
+    ghost held = { λ s. length s.now };
+
     fn take(input: &mut &'a [u8]) -> Option<&'a [u8]> {
         let length = take::<u16>(input)?;
         input.split_off(..length as usize)
@@ -65,6 +74,8 @@ impl<'a> Field<'a> for &'a [u8] {
 
 // What may be absent: 0, or 1 and the field.
 impl<'a, T: Field<'a>> Field<'a> for Option<T> {
+    ghost held = { elim [ None ↦ 0 | Some v ↦ T.held v ] };
+
     fn take(input: &mut &'a [u8]) -> Option<Option<T>> {
         if take(input)? {
             take(input).map(Some)

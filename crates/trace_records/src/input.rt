@@ -1,5 +1,6 @@
 // Records out of standard input, by way of a buffer.
-ghost use Rattle.std.specs.Prelude.{◌≡◌, true, ◌+◌, ◌≤◌, length, IfSome};
+ghost use Rattle.std.specs.Prelude.{◌≡◌, ◌+◌, ◌-◌, ◌≤◌, length, drop, take, IfSome};
+ghost use Rattle.trace_records.specs.Record.{brings};
 
 use crate::{Record, read};
 
@@ -24,43 +25,32 @@ impl<'b> Input<'b> {
         }
     }
 
-    // Whether an opening is next: its mark is at hand.
-    pub fn opens(&mut self) -> bool
-        ensures { result ≡ true → self.new.at + 2 ≤ self.new.end }
-    {
-        if self.end - self.at < 2 {
-            self.refill();
-        }
-        2 <= self.end - self.at && self.buffer[self.at..self.end].starts_with(b"OP")
-    }
-
     // The next record, out of more input where the buffer has no whole one.
-    pub fn record(&mut self) -> Option<Record<'_>> {
-        let next = self.fetched()?;
-        let at = self.at;
-        let end = self.end;
-        self.at = next;
-        read(&mut &self.buffer[at..end])
-    }
-
-    // Where the record behind the next one begins, once the buffer has that one.
-    fn fetched(&mut self) -> Option<usize>
-        ensures { IfSome result (λ n. n ≤ self.new.end) }
+    pub fn record(&mut self) -> Option<Record>
+        ensures { IfSome result (λ r. 2 + brings r ≤ self.new.at) }
     {
-        if let Some(next) = self.next() {
-            return Some(next);
+        if let Some(record) = self.next() {
+            return Some(record);
         }
         self.refill();
         self.next()
     }
 
-    // Where the record behind the next one begins; none where that is not whole.
-    fn next(&self) -> Option<usize>
-        ensures { IfSome result (λ n. n ≤ self.now.end) }
+    // The next record, if the buffer has it whole.
+    fn next(&mut self) -> Option<Record>
+        ensures { IfSome result (λ r. self.old.at + 2 + brings r ≤ self.new.at) }
     {
         let mut left = &self.buffer[self.at..self.end];
-        read(&mut left)?;
-        Some(self.end - left.len())
+        let record = read(&mut left)?;
+        self.at = self.end - left.len();
+        Some(record)
+    }
+
+    // The bytes that the record before brings, where it says n; the next record may move them.
+    pub fn brought(&self, n: usize) -> &[u8]
+        ensures { result.now ≡ drop (self.now.at - n) (take self.now.at self.now.buffer.now) }
+    {
+        &self.buffer[self.at.saturating_sub(n)..self.at]
     }
 
     // Moves what is not used yet to the front and fills the buffer behind it.

@@ -1,11 +1,12 @@
 // What a call is told, and the bytes that come beside it: a response with its handle, or how the stream broke with its detail's value.
-ghost use Rattle.std.specs.Prelude.{◌≤◌, length};
+ghost use Rattle.std.specs.Prelude.{◌+◌, ◌≤◌, length, IfSome};
 
 use crate::fields::take;
 use bidi_write::{Break, Detail, Generation, Offset, Resource, Response, Status, WriteStatus};
 
 pub fn response<'a>(input: &mut &'a [u8]) -> Option<(Response, &'a [u8])>
-    ensures { length input.new.now ≤ length input.old.now }
+    ensures no_more { length input.new.now ≤ length input.old.now }
+    ensures holds { IfSome result (λ r. length r.1.now + length input.new.now ≤ length input.old.now) }
 {
     let write_status = write_status(input)?;
     let handle = take::<Option<&'a [u8]>>(input)?;
@@ -43,7 +44,8 @@ fn resource(input: &mut &[u8], finalized: bool) -> Option<WriteStatus>
 }
 
 pub fn stream_break<'a>(input: &mut &'a [u8]) -> Option<(Break, &'a [u8])>
-    ensures { length input.new.now ≤ length input.old.now }
+    ensures no_more { length input.new.now ≤ length input.old.now }
+    ensures holds { IfSome result (λ b. length b.1.now + length input.new.now ≤ length input.old.now) }
 {
     match take::<u8>(input)? {
         0 => Some((Break::EndOfStream, &[])),
@@ -54,7 +56,8 @@ pub fn stream_break<'a>(input: &mut &'a [u8]) -> Option<(Break, &'a [u8])>
 }
 
 fn status<'a>(input: &mut &'a [u8]) -> Option<(Break, &'a [u8])>
-    ensures { length input.new.now ≤ length input.old.now }
+    ensures no_more { length input.new.now ≤ length input.old.now }
+    ensures holds { IfSome result (λ b. length b.1.now + length input.new.now ≤ length input.old.now) }
 {
     let code = take(input)?;
     match take::<Option<&'a [u8]>>(input)? {
