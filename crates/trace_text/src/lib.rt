@@ -44,12 +44,16 @@ pub fn line(out: &mut [u8], n: usize, x: Line) -> usize {
     text(out, n, &x.bytes[..x.end()])
 }
 
+// Digits do not go by way of a line, which is copied whole for each byte.
 pub fn number(out: &mut [u8], n: usize, x: u64) -> usize {
-    line(out, n, Line::new().number(x))
+    let mut digits = [0u8; 20];
+    let k = io::decimal(x, &mut digits);
+    text(out, n, &digits[..k])
 }
 
 pub fn signed(out: &mut [u8], n: usize, x: i64) -> usize {
-    line(out, n, Line::new().signed(x))
+    let n = if x < 0 { byte(out, n, b'-') } else { n };
+    number(out, n, x.unsigned_abs())
 }
 
 pub fn flag(out: &mut [u8], n: usize, on: bool) -> usize {
