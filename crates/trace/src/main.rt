@@ -69,7 +69,7 @@ fn turn(
     }
 }
 
-// A script, with as much lent to its session as its opening says.
+// A script, with as much lent to its session as its opening says, whose fields have `length` bytes.
 fn begin(
     input: &mut Input<'_>,
     out: &mut [u8],

@@ -46,7 +46,7 @@ impl<'b> Input<'b> {
         Some(record)
     }
 
-    // The bytes that the record before brings, where it says n; the next record may move them.
+    // The last n of the bytes used: what the record given last brings, where it says n. The next call of `record` may move them.
     pub fn brought(&self, n: usize) -> &[u8]
         ensures { result.now ≡ drop (self.now.at - n) (take self.now.at self.now.buffer.now) }
     {
